@@ -18,7 +18,7 @@ line-feed = 10
 abbrev pub Digit : ℕ → Type 0
 Digit c = (48 ≤ c) × (c ≤ 57)
 
--- The number that these decimal digits write, after digits that write n.
+-- The number that these decimal digits write behind digits that write n.
 abbrev pub value-after : ℕ → List ℕ → ℕ
 value-after n [] = n
 value-after n (c ∷ cs) = value-after (n * 10 + (c - 48)) cs
@@ -34,12 +34,18 @@ pub record Numeral (n : ℕ) (bytes : List ℕ) : Type 0 where
 abbrev pub Fields : List ℕ → List ℕ → Type 0
 Fields [] bytes = bytes ≡ []
 Fields (n ∷ ns) bytes =
-    (numeral rest : List ℕ) × Numeral n numeral × Fields ns rest × (bytes ≡ space ∷ (numeral ++ rest))
+    (numeral : List ℕ) × (rest : List ℕ) × Numeral n numeral × Fields ns rest × (bytes ≡ space ∷ (numeral ++ rest))
 
 -- A line is its letter and then its numbers.
 abbrev pub Says : ℕ → List ℕ → List ℕ → Type 0
 Says letter numbers line = (fields : List ℕ) × Fields numbers fields × (line ≡ letter ∷ fields)
 
-abbrev pub parsed : Option Line → Option (ℕ × List ℕ)
-parsed None = None
-parsed (Some l) = Some (l .letter, vec-items (l .numbers))
+-- The letter and the numbers that a line gave.
+abbrev pub given : Option Line → Option (ℕ × List ℕ)
+given None = None
+given (Some l) = Some (l .letter, vec-items (l .numbers))
+
+-- A text's first line and what stands behind its line feed.
+pub record Cut (text line rest : List ℕ) : Type 0 where
+  pub whole : text ≡ line ++ line-feed ∷ rest
+  pub one-line : All (λ c. c ≡ line-feed → ⊥) line
