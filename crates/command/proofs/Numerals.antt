@@ -23,13 +23,12 @@ module _ (text : List ℕ) (end : ℕ)
     (within : (end ≤ length text) × (end ≤ 9))
     (digits : (k : ℕ) → k < end → Digit (getD text k 0))
     (stops : end < length text → end < 9 → Digit (getD text end 0) → ⊥) where
-
   pub all-digits : All Digit (take end text)
   all-digits =
       all-from-getD Digit (take end text) 0
       (λ k h. let l = length-take-le end text (within .0) in
-          let h : k < end = omega arith in
-          subst Digit (sym (getD-take end text k 0 h)) (digits k h))
+      let h : k < end = omega arith in
+      subst Digit (sym (getD-take end text k 0 h)) (digits k h))
 
   -- A numeral that leads the text, with fields behind it, ends where the digits end.
   same-end : (n : ℕ) (ns numeral rest : List ℕ) → Numeral n numeral → Fields ns rest → text ≡ numeral ++ rest → length numeral ≡ end
@@ -38,13 +37,13 @@ module _ (text : List ℕ) (end : ℕ)
       elim (order (length numeral) end) [
         | inl same ↦ same
         | inr apart ↦ absurd (elim apart [
-            | inl short ↦
-                no-digit-leads ns rest fields (omega arith)
-                (subst Digit (ap (λ (bs : List ℕ). getD bs (length numeral) 0) e ∙ subst (λ (m : ℕ). getD (numeral ++ rest) m 0 ≡ getD rest 0 0) (omega arith) (getD-append-add numeral rest 0 0)) (digits (length numeral) short))
-            | inr long ↦
-                stops (omega arith) (omega (arith, is .few))
-                (subst Digit (sym (ap (λ (bs : List ℕ). getD bs end 0) e ∙ getD-append-left numeral rest 0 end long)) (all-getD Digit numeral end 0 long (is .digits)))
-          ])
+          | inl short ↦
+              no-digit-leads ns rest fields (omega arith)
+              (subst Digit (ap (λ (bs : List ℕ). getD bs (length numeral) 0) e ∙ subst (λ (m : ℕ). getD (numeral ++ rest) m 0 ≡ getD rest 0 0) (omega arith) (getD-append-add numeral rest 0 0)) (digits (length numeral) short))
+          | inr long ↦
+              stops (omega arith) (omega (arith, is .few))
+              (subst Digit (sym (ap (λ (bs : List ℕ). getD bs end 0) e ∙ getD-append-left numeral rest 0 end long)) (all-getD Digit numeral end 0 long (is .digits)))
+        ])
       ]
 
   Number-first : List ℕ → Type 0
@@ -59,20 +58,22 @@ module _ (text : List ℕ) (end : ℕ)
       let e : text ≡ numeral ++ rest = ap (drop 1) (f .4) in
       let same = same-end n ns numeral rest (f .2) (f .3) e in
       let t : take end text ≡ numeral = ap (take end) e ∙ take-at numeral rest end same in
-      let d : drop end text ≡ rest = ap (drop end) e ∙ drop-at numeral rest end same in
-      ( ns
-      , ap (λ (m : ℕ). m ∷ ns) (sym (f .2 .value) ∙ ap (value-after 0) (sym t))
-      , subst (Fields ns) (sym d) (f .3) )
+      let d : drop end text ≡ rest = ap (drop end) e ∙ drop-at numeral rest end same in (
+        ns,
+        ap (λ (m : ℕ). m ∷ ns) (sym (f .2 .value) ∙ ap (value-after 0) (sym t)),
+        subst (Fields ns) (sym d) (f .3),
+      )
 
   back : 1 ≤ end → (ns : List ℕ) → Number-first ns → Fields ns (space ∷ text)
   unfolding Number-first
   back some ns p =
-      subst (λ (ms : List ℕ). Fields ms (space ∷ text)) (sym (p .1))
-      ( take end text
-      , drop end text
-      , record { digits = all-digits; some = omega (arith, length-take-le end text (within .0)); few = omega (arith, length-take-le end text (within .0)); value = refl }
-      , p .2
-      , ap (λ (bs : List ℕ). space ∷ bs) (sym (take-append-drop end text)) )
+      subst (λ (ms : List ℕ). Fields ms (space ∷ text)) (sym (p .1)) (
+        take end text,
+        drop end text,
+        record { digits = all-digits; some = omega (arith, length-take-le end text (within .0)); few = omega (arith, length-take-le end text (within .0)); value = refl },
+        p .2,
+        ap (λ (bs : List ℕ). space ∷ bs) (sym (take-append-drop end text)),
+      )
 
   pub reads-number : 1 ≤ end → (ns : List ℕ) →
       Fields ns (space ∷ text) ↔ ((more : List ℕ) × (ns ≡ value-after 0 (take end text) ∷ more) × Fields more (drop end text))

@@ -25,21 +25,23 @@ none-is-not-some ns e = let z : _≡_ {A = ℕ} 0 1 = cc in omega arith
 pub left-after : (fields done rest after : List ℕ) (n : ℕ) → Left fields done rest →
     ((ns : List ℕ) → Fields ns rest ↔ ((more : List ℕ) × (ns ≡ n ∷ more) × Fields more after)) →
     Left fields (done ++ n ∷ []) after
-left-after fields done rest after n left first ns =
-    ( (λ f. let p = left ns .0 f in
-        let q = first (p .0) .0 (p .2) in
-        (q .0, p .1 ∙ ap (λ (ms : List ℕ). done ++ ms) (q .1) ∙ sym (append-assoc done (n ∷ []) (q .0)), q .2))
-    , (λ p. left ns .1
-        (n ∷ p .0, p .1 ∙ append-assoc done (n ∷ []) (p .0), first (n ∷ p .0) .1 (p .0, refl, p .2))) )
+left-after fields done rest after n left first ns = (
+  (λ f. let p = left ns .0 f in
+      let q = first (p .0) .0 (p .2) in
+      (q .0, p .1 ∙ ap (λ (ms : List ℕ). done ++ ms) (q .1) ∙ sym (append-assoc done (n ∷ []) (q .0)), q .2)),
+  (λ p. left ns .1
+      (n ∷ p .0, p .1 ∙ append-assoc done (n ∷ []) (p .0), first (n ∷ p .0) .1 (p .0, refl, p .2))),
+)
 
 pub read-none : (fields done rest : List ℕ) → Left fields done rest → ((ns : List ℕ) → Fields ns rest → ⊥) → Reads None fields
 read-none fields done rest left never ns =
     (λ e. absurd (none-is-not-some ns e), λ f. let p = left ns .0 f in absurd (never (p .0) (p .2)))
 
 pub read-all : (fields done rest : List ℕ) → Left fields done rest → rest ≡ [] → Reads (Some done) fields
-read-all fields done rest left end ns =
-    ( (λ e. let same : done ≡ ns = cc in left ns .1 ([], sym same ∙ sym (append-nil done), end))
-    , (λ f. let p = left ns .0 f in ap Some (sym (p .1 ∙ ap (λ (ms : List ℕ). done ++ ms) (nothing (p .0) (p .2)) ∙ append-nil done))) )
+read-all fields done rest left end ns = (
+  (λ e. let same : done ≡ ns = cc in left ns .1 ([], sym same ∙ sym (append-nil done), end)),
+  (λ f. let p = left ns .0 f in ap Some (sym (p .1 ∙ ap (λ (ms : List ℕ). done ++ ms) (nothing (p .0) (p .2)) ∙ append-nil done))),
+)
   where
     nothing : (ms : List ℕ) → Fields ms rest → ms ≡ []
     nothing [] f = refl
@@ -62,14 +64,17 @@ module _ (line fields : List ℕ) (l : ℕ) (e : line ≡ l ∷ fields) where
 
   pub says-some : (found : List ℕ) → Reads (Some found) fields →
       (letter : ℕ) (ns : List ℕ) → (_≡_ {A = Option (ℕ × List ℕ)} (Some (l, found)) (Some (letter, ns))) ↔ Says letter ns line
-  says-some found reads letter ns =
-      ( (λ q. let same : _≡_ {A = ℕ × List ℕ} (l, found) (letter, ns) = cc in
-          ( fields
-          , reads ns .0 (ap (λ (p : ℕ × List ℕ). Some (p .1)) same)
-          , e ∙ ap (λ (p : ℕ × List ℕ). p .0 ∷ fields) same ))
-      , (λ s. let p = fields-of letter ns s in let b = reads ns .1 (p .0) in let a = p .1 in cc) )
+  says-some found reads letter ns = (
+    (λ q. let same : _≡_ {A = ℕ × List ℕ} (l, found) (letter, ns) = cc in (
+      fields,
+      reads ns .0 (ap (λ (p : ℕ × List ℕ). Some (p .1)) same),
+      e ∙ ap (λ (p : ℕ × List ℕ). p .0 ∷ fields) same,
+    )),
+    (λ s. let p = fields-of letter ns s in let b = reads ns .1 (p .0) in let a = p .1 in cc),
+  )
 
   pub says-none : Reads None fields → (letter : ℕ) (ns : List ℕ) → (_≡_ {A = Option (ℕ × List ℕ)} None (Some (letter, ns))) ↔ Says letter ns line
-  says-none reads letter ns =
-      ( (λ q. absurd (let z : _≡_ {A = ℕ} 0 1 = cc in omega arith))
-      , (λ s. absurd (none-is-not-some ns (reads ns .1 (fields-of letter ns s .0)))) )
+  says-none reads letter ns = (
+    (λ q. absurd (let z : _≡_ {A = ℕ} 0 1 = cc in omega arith)),
+    (λ s. absurd (none-is-not-some ns (reads ns .1 (fields-of letter ns s .0)))),
+  )

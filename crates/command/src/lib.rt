@@ -98,7 +98,10 @@ pub fn parse(heap: Global, line: &[u8]) -> Result<Option<Line>, AllocError>
         return Ok(None);
     };
     match numbers(heap, fields)? {
-        Some(numbers) => Ok(Some(Line { letter: *letter as char, numbers })),
+        Some(numbers) => Ok(Some(Line {
+            letter: *letter as char,
+            numbers,
+        })),
         None => Ok(None),
     }
 }

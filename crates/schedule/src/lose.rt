@@ -21,6 +21,8 @@ impl Lose {
     pub fn new(width: u64) -> Result<Lose, Fault>
         ensures { λ r. ⌜ Cases r (λ s. (known width ≡ true) × (ghosts .ranges s ≡ lose width) × No-further-step (lose width)) (λ f. (known width ≡ false) × (number-place f ≡ (1, 0))) ⌝ }
     {
-        Ok(Lose { width: Width::new(width)? })
+        Ok(Lose {
+            width: Width::new(width)?,
+        })
     }
 }

@@ -21,6 +21,8 @@ impl Sole {
     pub fn new(width: u64) -> Result<Sole, Fault>
         ensures { λ r. ⌜ Cases r (λ s. (known width ≡ true) × (ghosts .ranges s ≡ sole width) × No-further-step (sole width)) (λ f. (known width ≡ false) × (number-place f ≡ (1, 0))) ⌝ }
     {
-        Ok(Sole { width: Width::new(width)? })
+        Ok(Sole {
+            width: Width::new(width)?,
+        })
     }
 }

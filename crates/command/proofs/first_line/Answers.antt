@@ -18,7 +18,7 @@ cut-at text i h here before =
           ∙ ap (λ (rest : List ℕ). take i text ++ rest) (drop-more text i 0 h ∙ ap (λ (c : ℕ). c ∷ drop (i + 1) text) here);
       one-line = all-from-getD (λ c. c ≡ line-feed → ⊥) (take i text) 0
           (λ k l e. let l : k < i = omega (arith, length-take-le i text (omega arith)) in
-              before k l (sym (getD-take i text k 0 l) ∙ e));
+          before k l (sym (getD-take i text k 0 l) ∙ e));
     })
 
 pub returns-then-byte-eq10 : need.returns-then-byte-eq10

@@ -18,9 +18,10 @@ returns-then-end-eq0 c =
 pub value-requires : need.value-requires
 value-requires c κs =
     let found = c .leading-digits-end .ensures in
-    rw sub-zero
-    ( omega (arith, length-take-le (c .leading-digits-end .result) (c .args .text .now) (found .within .0))
-    , all-digits (c .args .text .now) _ (found .within) (found .digits) (found .stops) )
+    rw sub-zero (
+      omega (arith, length-take-le (c .leading-digits-end .result) (c .args .text .now) (found .within .0)),
+      all-digits (c .args .text .now) _ (found .within) (found .digits) (found .stops),
+    )
 
 pub returns : need.returns
 returns c =

@@ -30,7 +30,7 @@ loop-rest-again c =
     let e = first-is (c .loop-rest .rest .now) space some (c .if-rest-ne32 .left) in
     rw (c .in-Continue-push .ensures tt .items)
     (left-after _ _ _ _ _ (c .loop-rest .inv)
-      (λ ns. (λ f. c .in-Some .ensures tt .reads ns .0 (subst (Fields ns) e f), λ p. subst (Fields ns) (sym e) (c .in-Some .ensures tt .reads ns .1 p))))
+    (λ ns. (λ f. c .in-Some .ensures tt .reads ns .0 (subst (Fields ns) e f), λ p. subst (Fields ns) (sym e) (c .in-Some .ensures tt .reads ns .1 p))))
 
 pub returns : need.returns
 returns c =

@@ -13,9 +13,10 @@ more v n c h k = rw add-one (omega arith)
 
 pub loop-digit-again : need.loop-digit-again
 loop-digit-again c =
-    let i = c .loop-digit .digit-index in
-    ( sym (at-drop-more (value-after (c .loop-digit .value)) (c .args .digits .now) i 0 (omega arith)) ∙ c .loop-digit .inv .0
-    , more _ i _ (c .loop-digit .inv .1) (all-getD Digit (c .args .digits .now) i 0 (omega arith) (c .pre .1) .1) )
+    let i = c .loop-digit .digit-index in (
+      sym (at-drop-more (value-after (c .loop-digit .value)) (c .args .digits .now) i 0 (omega arith)) ∙ c .loop-digit .inv .0,
+      more _ i _ (c .loop-digit .inv .1) (all-getD Digit (c .args .digits .now) i 0 (omega arith) (c .pre .1) .1),
+    )
 
 pub returns : need.returns
 returns c =
