@@ -1,5 +1,5 @@
 ghost use mathlib.Core.Path.{_≡_};
-ghost use Rattle.schedule.specs.Ranges.{Ranges, Lawful, longest};
+ghost use Rattle.schedule.specs.Ranges.{Ranges, Lawful, alphabet, end-mark, longest};
 
 // A schedule is the numbers that it answers; `ranges` names them. Asking alters nothing.
 pub trait Schedule {
@@ -26,6 +26,20 @@ pub trait Schedule {
     // Y(j), the spill range of group j, for j up to K, and 0 for every other j.
     fn spill(&self, j: u64) -> u64
         ensures { λ r. ⌜ r ≡ ranges (now (self .entry)) .spill j ⌝ };
+}
+
+// The symbol that ends a recording.
+pub fn end_mark<S: Schedule>(schedule: &S) -> u64
+    ensures { λ r. ⌜ r ≡ end-mark (ranges (now (schedule .entry))) ⌝ }
+{
+    schedule.base()
+}
+
+// A, the count of symbols: the blocks and the end mark.
+pub fn alphabet<S: Schedule>(schedule: &S) -> u64
+    ensures { λ r. ⌜ r ≡ alphabet (ranges (now (schedule .entry))) ⌝ }
+{
+    end_mark(schedule) + 1
 }
 
 // N, the blocks of the longest recording.
