@@ -39,7 +39,7 @@ closed-is R j y k (s ∷ t ∷ ss) e =
 
 pub stream-is : (R : Ranges) (blocks : List ℕ) (k : ℕ) → k ≡ (length (symbols R blocks) - R .lead) / 2 →
     stream R blocks ≡ complete R (symbols R blocks)
-      ++ group R k 0 (last-spill R 0 (first-spill (R .lead) (symbols R blocks)) (drop (R .lead) (symbols R blocks)))
+    ++ group R k 0 (last-spill R 0 (first-spill (R .lead) (symbols R blocks)) (drop (R .lead) (symbols R blocks)))
 stream-is R blocks k e = closed-is R 0 _ k (drop (R .lead) (symbols R blocks)) (omega (arith, length-drop (R .lead) (symbols R blocks)))
 
 -- What the marks write and the closing group end the stream.

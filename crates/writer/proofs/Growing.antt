@@ -94,7 +94,7 @@ module _ (R : Ranges) (ss : List ℕ) (h : Held) (holds : Holds R ss h) (x : ℕ
             rw (lead-drop l, lead-spill l)
             (w .groups-grow
             ∙ sym (ap (λ (bs : List ℕ). complete R ss ++ bs)
-                (second ∙ ap (λ (q : ℕ × ℕ). group R k (q .0) (h .spill)) same ∙ ap (group R k (first-pass R k (unpaired d) x .0)) (holds .spill))));
+            (second ∙ ap (λ (q : ℕ × ℕ). group R k (q .0) (h .spill)) same ∙ ap (group R k (first-pass R k (unpaired d) x .0)) (holds .spill))));
       }
 
 -- Some symbols, and then more.

@@ -4,3 +4,6 @@ pub mod Growing
 pub mod Closing
 pub mod Rows
 pub mod Opening
+pub mod Unique
+pub mod Shape
+pub mod Recorded

@@ -30,9 +30,9 @@ close-writes R count = count + length (marks R count) + 1 - due R count
 abbrev pub offer-rows : Ranges → ℕ → List ℕ → ℕ → List (ℕ × ℕ × Bool)
 offer-rows R count piece room =
     (11, longest R - count, ltb (longest R) (count + length piece))
-  ∷ (10, front-below (R .base) piece, ltb (front-below (R .base) piece) (length piece))
-  ∷ (12, offer-writes R count (length piece), ltb room (offer-writes R count (length piece)))
-  ∷ []
+    ∷ (10, front-below (R .base) piece, ltb (front-below (R .base) piece) (length piece))
+    ∷ (12, offer-writes R count (length piece), ltb room (offer-writes R count (length piece)))
+    ∷ []
 
 abbrev pub close-rows : Ranges → ℕ → ℕ → List (ℕ × ℕ × Bool)
 close-rows R count room = (12, close-writes R count, ltb room (close-writes R count)) ∷ []

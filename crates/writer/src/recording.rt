@@ -39,7 +39,11 @@ impl<S: Schedule> Recording<S> {
     {
         Recording {
             schedule,
-            held: Held { count: 0, spill: 0, waiting: 0 },
+            held: Held {
+                count: 0,
+                spill: 0,
+                waiting: 0,
+            },
         }
     }
 
@@ -64,7 +68,10 @@ impl<S: Schedule> Recording<S> {
     {
         match check_close(&self.schedule, self.held.count, buffer.len()) {
             Ok(()) => Ok(finish(&self.schedule, self.held, buffer)),
-            Err(fault) => Err(RefusedClose { recording: self, fault }),
+            Err(fault) => Err(RefusedClose {
+                recording: self,
+                fault,
+            }),
         }
     }
 }

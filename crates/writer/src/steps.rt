@@ -33,16 +33,37 @@ pub(crate) fn advance<S: Schedule>(schedule: &S, held: Held, symbol: u64) -> (He
     let count = held.count + 1;
     let lead = schedule.lead();
     if held.count < lead {
-        return (Held { count, spill: symbol, waiting: 0 }, Group::Nothing);
+        return (
+            Held {
+                count,
+                spill: symbol,
+                waiting: 0,
+            },
+            Group::Nothing,
+        );
     }
     let place = held.count - lead;
     if place % 2 == 0 {
-        return (Held { count, spill: held.spill, waiting: symbol }, Group::Nothing);
+        return (
+            Held {
+                count,
+                spill: held.spill,
+                waiting: symbol,
+            },
+            Group::Nothing,
+        );
     }
     let j = place / 2;
     let (carrier, spill) = first_pass(schedule, j, held.waiting, symbol);
     let group = second_pass(schedule, j, carrier, held.spill);
-    (Held { count, spill, waiting: 0 }, group)
+    (
+        Held {
+            count,
+            spill,
+            waiting: 0,
+        },
+        group,
+    )
 }
 
 // Puts a group into the buffer at `at`, and answers the place behind it.

@@ -21,7 +21,7 @@ put-requires g c κs =
     let R = g .S·Schedule .ranges (c .args .schedule .now) in
     let law = g .S·Schedule·met .lawful (c .args .schedule .now) in
     let two : length (group-blocks (c .second-pass-closing .result)) ≡ 2 =
-        ap length (c .second-pass-closing .ensures) ∙ closing-length R law (c .args .held .count) (c .saturating-sub-j .result / 2) _ (omega arith) in
+    ap length (c .second-pass-closing .ensures) ∙ closing-length R law (c .args .held .count) (c .saturating-sub-j .result / 2) _ (omega arith) in
     omega (arith, two, c .take-marks-at .ensures .wrote, c .pre .room)
 
 pub returns : need.returns
@@ -29,16 +29,16 @@ returns g c =
     let R = g .S·Schedule .ranges (c .args .schedule .now) in
     let law = g .S·Schedule·met .lawful (c .args .schedule .now) in
     let two : length (group-blocks (c .second-pass-closing .result)) ≡ 2 =
-        ap length (c .second-pass-closing .ensures) ∙ closing-length R law (c .args .held .count) (c .saturating-sub-j .result / 2) _ (omega arith) in
+    ap length (c .second-pass-closing .ensures) ∙ closing-length R law (c .args .held .count) (c .saturating-sub-j .result / 2) _ (omega arith) in
     record {
       wrote = omega (arith, two, c .take-marks-at .ensures .wrote, c .put .ensures .place);
       behind = c .put .ensures .behind
           ∙ behind-later (c .take-marks-at .last .buffer) (c .args .buffer .now) (c .take-marks-at .result .1) (c .put .result)
-            (omega (arith, c .put .ensures .place)) (c .take-marks-at .ensures .behind);
+          (omega (arith, c .put .ensures .place)) (c .take-marks-at .ensures .behind);
       closes = λ blocks few holds.
           let grows =
-              subst (λ (n : ℕ). Grows R blocks (marks R n) (c .take-marks-at .result .0) (take (c .take-marks-at .result .1) (c .take-marks-at .last .buffer)))
-              (holds .count) (c .take-marks-at .ensures .grows blocks few holds) in
+          subst (λ (n : ℕ). Grows R blocks (marks R n) (c .take-marks-at .result .0) (take (c .take-marks-at .result .1) (c .take-marks-at .last .buffer)))
+          (holds .count) (c .take-marks-at .ensures .grows blocks few holds) in
           closes R blocks (c .take-marks-at .result .0) _ grows (c .saturating-sub-j .result / 2) (omega arith) _ (c .second-pass-closing .ensures)
           ∙ ap (λ (bs : List ℕ). complete R blocks ++ bs) (sym (c .put .ensures .front));
     }

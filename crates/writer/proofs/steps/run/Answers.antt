@@ -23,15 +23,16 @@ loop-x-again g c =
     let i = c .loop-x .x-index in
     let x = getD (c .args .symbols .now) i 0 in
     let done = c .loop-x .inv in
-    let step = c .advance-group .ensures in
-    ( omega (arith, done .0, step .count)
-    , step .sized
-    , omega (arith, done .2, step .count, step .long, c .put-at .ensures .place)
-    , c .put-at .ensures .behind ∙ behind-later (c .loop-x .buffer) (c .args .buffer .now) (c .loop-x .at) (c .put-at .result) (omega (arith, c .put-at .ensures .place)) (done .3)
-    , λ ss few holds.
-        let before = done .4 ss few holds in
-        let now = step .grows _ (omega (arith, done .0)) (before .holds) in
-        rw (take-more (c .args .symbols .now) i 0 (omega arith), c .put-at .ensures .front) (grows-on R ss _ _ _ _ _ _ before now) )
+    let step = c .advance-group .ensures in (
+      omega (arith, done .0, step .count),
+      step .sized,
+      omega (arith, done .2, step .count, step .long, c .put-at .ensures .place),
+      c .put-at .ensures .behind ∙ behind-later (c .loop-x .buffer) (c .args .buffer .now) (c .loop-x .at) (c .put-at .result) (omega (arith, c .put-at .ensures .place)) (done .3),
+      λ ss few holds.
+          let before = done .4 ss few holds in
+          let now = step .grows _ (omega (arith, done .0)) (before .holds) in
+          rw (take-more (c .args .symbols .now) i 0 (omega arith), c .put-at .ensures .front) (grows-on R ss _ _ _ _ _ _ before now),
+    )
 
 pub returns : need.returns
 returns g c =

@@ -13,4 +13,4 @@ Inv-loop-x g l =
     × (l .at + due R (l .entry .held .count) ≡ due R (l .held .count))
     × (drop (l .at) (l .buffer) ≡ drop (l .at) (l .entry .buffer))
     × ((ss : List ℕ) → l .entry .held .count + length (l .symbols) ≤ R .lead + 2 * R .steps → Holds R ss (l .entry .held) →
-        Grows R ss (take (l .x-index) (l .symbols)) (l .held) (take (l .at) (l .buffer)))
+    Grows R ss (take (l .x-index) (l .symbols)) (l .held) (take (l .at) (l .buffer)))

@@ -40,11 +40,13 @@ returns g c =
       schedule = refl;
       offers = record {
         answers = judged-as (offer-rows R (h .count) piece (length (c .args .buffer .now))) tt tt _ _ (c .in-Continue-check-offer .ensures tt) (ran .wrote);
-        leaves =
-            ( record { same-length = omega arith; behind = ran .behind }
-            , λ blocks o.
-                let grows = ran .grows blocks (omega (arith, ok .fits)) (o .holds) in
-                ( open-from R law (blocks ++ piece) _ (valid-append R law blocks piece (o .valid) (ok .below) (omega (arith, ok .fits, o .holds .count))) (grows .holds)
-                , grows .writes ) );
+        leaves = (
+          record { same-length = omega arith; behind = ran .behind },
+          λ blocks o.
+              let grows = ran .grows blocks (omega (arith, ok .fits)) (o .holds) in (
+                open-from R law (blocks ++ piece) _ (valid-append R law blocks piece (o .valid) (ok .below) (omega (arith, ok .fits, o .holds .count))) (grows .holds),
+                grows .writes,
+              ),
+        );
       };
     }
