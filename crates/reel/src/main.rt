@@ -8,57 +8,151 @@ use schedule::sole::Sole;
 use schedule::sole::SoleSchedule;
 use std::io;
 use std::io::Read;
+use writer::recording::Recording;
 
 // How many bytes of standard input count.
 const MOST: usize = 32768;
+
+// An open recording on a schedule.
+#[derive(Drop)]
+struct Lane<S: Schedule> {
+    schedule: S,
+    recording: Recording<S>,
+}
+
+// What is open.
+#[derive(Drop)]
+enum State {
+    Nothing,
+    Sole(Lane<Sole>),
+    Lose(Lane<Lose>),
+}
 
 fn unknown(rt: &LibcRuntime) -> io::Result<()> {
     println!(rt, "?")
 }
 
-fn print_fault(rt: &LibcRuntime, letter: char, fault: Fault) -> io::Result<()> {
+fn print_fault(rt: &LibcRuntime, fault: Fault) -> io::Result<()> {
     let number = fault.number();
     let place = fault.place();
-    println!(rt, "{letter} X {number} {place}")
+    println!(rt, " X {number} {place}")
 }
 
-fn print_schedule<S: Schedule>(
-    rt: &LibcRuntime,
-    letter: char,
-    width: u64,
-    schedule: &S,
-) -> io::Result<()> {
-    let n = longest(schedule);
-    println!(rt, "{letter} {width} {n}")
+fn print_blocks(rt: &LibcRuntime, blocks: &[u64]) -> io::Result<()> {
+    for x in blocks {
+        print!(rt, " {x}")?;
+    }
+    println!(rt, "")
 }
 
-fn make_sole(rt: &LibcRuntime, width: u64) -> io::Result<()> {
+fn open<S: Schedule + Copy>(rt: &LibcRuntime, width: u64, schedule: S) -> io::Result<Lane<S>> {
+    let n = longest(&schedule);
+    println!(rt, " {width} {n}")?;
+    Ok(Lane {
+        schedule,
+        recording: Recording::open(schedule),
+    })
+}
+
+fn make_sole(rt: &LibcRuntime, state: State, width: u64) -> io::Result<State> {
+    print!(rt, "S")?;
     match Sole::new(width) {
-        Ok(schedule) => print_schedule(rt, 'S', width, &schedule),
-        Err(fault) => print_fault(rt, 'S', fault),
+        Ok(schedule) => Ok(State::Sole(open(rt, width, schedule)?)),
+        Err(fault) => {
+            print_fault(rt, fault)?;
+            Ok(state)
+        }
     }
 }
 
-fn make_lose(rt: &LibcRuntime, width: u64) -> io::Result<()> {
+fn make_lose(rt: &LibcRuntime, state: State, width: u64) -> io::Result<State> {
+    print!(rt, "L")?;
     match Lose::new(width) {
-        Ok(schedule) => print_schedule(rt, 'L', width, &schedule),
-        Err(fault) => print_fault(rt, 'L', fault),
+        Ok(schedule) => Ok(State::Lose(open(rt, width, schedule)?)),
+        Err(fault) => {
+            print_fault(rt, fault)?;
+            Ok(state)
+        }
     }
 }
 
-fn act(rt: &LibcRuntime, letter: char, numbers: &[u64]) -> io::Result<()> {
+// A piece of m blocks completes pairs of at most m + 1 blocks.
+fn offer<S: Schedule>(rt: &LibcRuntime, lane: &mut Lane<S>, piece: &[u64]) -> io::Result<()> {
+    let mut buffer = vec![in rt.alloc(); 0u64; piece.len().saturating_add(1)]?;
+    print!(rt, "O")?;
+    match lane.recording.offer(piece, &mut buffer) {
+        Ok(n) => print_blocks(rt, &buffer[0..n]),
+        Err(fault) => print_fault(rt, fault),
+    }
+}
+
+// A close writes at most four blocks.
+fn close<S: Schedule + Copy>(rt: &LibcRuntime, lane: Lane<S>) -> io::Result<Lane<S>> {
+    let Lane {
+        schedule,
+        recording,
+    } = lane;
+    let mut buffer = [0u64; 4];
+    print!(rt, "C")?;
+    match recording.close(&mut buffer) {
+        Ok(n) => {
+            print_blocks(rt, &buffer[0..n])?;
+            Ok(Lane {
+                schedule,
+                recording: Recording::open(schedule),
+            })
+        }
+        Err(refused) => {
+            print_fault(rt, refused.fault)?;
+            Ok(Lane {
+                schedule,
+                recording: refused.recording,
+            })
+        }
+    }
+}
+
+fn act_on<S: Schedule + Copy>(
+    rt: &LibcRuntime,
+    mut lane: Lane<S>,
+    letter: char,
+    numbers: &[u64],
+) -> io::Result<Lane<S>> {
     match (letter, numbers) {
-        ('S', [width]) => make_sole(rt, *width),
-        ('L', [width]) => make_lose(rt, *width),
-        ('O', _) | ('C', []) | ('T', _) | ('E', []) => unknown(rt),
-        _ => unknown(rt),
+        ('O', piece) => {
+            offer(rt, &mut lane, piece)?;
+            Ok(lane)
+        }
+        ('C', []) => close(rt, lane),
+        _ => {
+            unknown(rt)?;
+            Ok(lane)
+        }
     }
 }
 
-fn read_line(rt: &LibcRuntime, text: &[u8]) -> io::Result<()> {
+fn act(rt: &LibcRuntime, state: State, letter: char, numbers: &[u64]) -> io::Result<State> {
+    match (letter, numbers) {
+        ('S', [width]) => make_sole(rt, state, *width),
+        ('L', [width]) => make_lose(rt, state, *width),
+        _ => match state {
+            State::Nothing => {
+                unknown(rt)?;
+                Ok(State::Nothing)
+            }
+            State::Sole(lane) => Ok(State::Sole(act_on(rt, lane, letter, numbers)?)),
+            State::Lose(lane) => Ok(State::Lose(act_on(rt, lane, letter, numbers)?)),
+        },
+    }
+}
+
+fn read_line(rt: &LibcRuntime, state: State, text: &[u8]) -> io::Result<State> {
     match command::parse(rt.alloc(), text)? {
-        Some(line) => act(rt, line.letter, &line.numbers),
-        None => unknown(rt),
+        Some(line) => act(rt, state, line.letter, &line.numbers),
+        None => {
+            unknown(rt)?;
+            Ok(state)
+        }
     }
 }
 
@@ -67,19 +161,22 @@ fn main(rt: LibcRuntime) -> io::Result<()> {
     let _ = rt.stdin().take(MOST as u64 + 1).read_to_end(&mut input)?;
     let cut = input.len() > MOST;
     input.truncate(MOST);
+    let mut state = State::Nothing;
     let mut text = input.as_slice();
     while let Some((line, rest)) = command::first_line(text) {
-        read_line(&rt, line)?;
+        state = read_line(&rt, state, line)?;
         text = rest;
     }
+    if !text.is_empty() {
+        if cut {
+            unknown(&rt)?;
+        } else {
+            state = read_line(&rt, state, text)?;
+        }
+    }
+    drop(state);
     if cut {
         eprintln!(rt, "reel: only the first {MOST} bytes count")?;
     }
-    if text.is_empty() {
-        Ok(())
-    } else if cut {
-        unknown(&rt)
-    } else {
-        read_line(&rt, text)
-    }
+    Ok(())
 }

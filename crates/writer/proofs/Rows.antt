@@ -1,4 +1,4 @@
--- Rows that are tried in order.
+-- An offer that is not refused.
 use Prim.Native.Nat.{ℕ, zero, suc, _+_, _<_, _≤_}
 use mathlib.Core.Path.{_≡_, refl, sym, ap, subst, _∙_}
 use mathlib.Core.Logic.{inl, inr}
@@ -11,29 +11,10 @@ use Rattle.std.specs.declared.result.Result.{Result}
 use Rattle.std.specs.declared.result.Result.the-variants.{Ok, Err}
 use Rattle.std.proofs.shelf.Ways.{tells, leb-tells}
 use Rattle.schedule.specs.Faults.{judged}
+use Rattle.schedule.proofs.Judged.{judged-clear}
 use Rattle.std.specs.shelf.Lists.{All}
 use Rattle.schedule.specs.Ranges.{Ranges, longest}
 use Rattle.writer.specs.Calls.{front-below, offer-writes, offer-rows}
-
--- No row holds.
-abbrev pub Clear : List (ℕ × ℕ × Bool) → Type 0
-Clear [] = Unit {0}
-Clear (row ∷ rows) = (row .2 ≡ false) × Clear rows
-
--- An answer that is no refusal: no row held.
-pub judged-clear : {X : Type 0} (rows : List (ℕ × ℕ × Bool)) (x y : X) → Ok y ≡ judged rows x → Clear rows × (y ≡ x)
-judged-clear [] x y e = (tt, cc)
-judged-clear {X} (row ∷ rows) x y e = go (row .2) refl (judged-clear rows x y) e
-  where
-    go : (c : Bool) → row .2 ≡ c → (Ok y ≡ judged rows x → Clear rows × (y ≡ x)) →
-        _≡_ {A = Result X (ℕ × ℕ)} (Ok y) (elim c [ true ↦ Err (row .0, row .1) | false ↦ judged rows x ]) →
-        ((row .2 ≡ false) × Clear rows) × (y ≡ x)
-    go true e more f = let z : _≡_ {A = ℕ} 0 1 = cc in absurd (omega arith)
-    go false e more f = ((e, more f .0), more f .1)
-
-pub clear-judged : {X : Type 0} (rows : List (ℕ × ℕ × Bool)) (x : X) → Clear rows → judged rows x ≡ Ok x
-clear-judged [] x c = refl
-clear-judged (row ∷ rows) x c = rw (c .0) (clear-judged rows x (c .1))
 
 -- An offer that no row stands against.
 pub record Fine (R : Ranges) (count : ℕ) (piece : List ℕ) (room : ℕ) : Type 0 where
@@ -57,7 +38,3 @@ fine R count piece room e =
       below = let t = clear .1 .0 in all-below (R .base) piece (grind (arith, tells));
       room-for = let t = clear .1 .1 .0 in grind (arith, tells);
     }
-
--- The answer does not go by what a call without refusal answers.
-pub judged-as : {X Y : Type 0} (rows : List (ℕ × ℕ × Bool)) (x y : X) (a b : Y) → Ok y ≡ judged rows x → b ≡ a → Ok b ≡ judged rows a
-judged-as rows x y a b e f = ap Ok f ∙ sym (clear-judged rows a (judged-clear rows x y e .0))

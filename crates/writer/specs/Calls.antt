@@ -39,6 +39,7 @@ close-rows R count room = (12, close-writes R count, ltb room (close-writes R co
 
 -- A buffer of which the first n blocks were written: the rest is as it was.
 pub record Written (n : ℕ) (buffer buffer′ : List ℕ) : Type 0 where
+  pub fits : n ≤ length buffer
   pub same-length : length buffer′ ≡ length buffer
   pub behind : drop n buffer′ ≡ drop n buffer
 

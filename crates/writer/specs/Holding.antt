@@ -20,10 +20,14 @@ unpaired [] = 0
 unpaired (s ∷ []) = s
 unpaired (s ∷ t ∷ ss) = unpaired ss
 
+-- What has gone over into the next group, once these symbols are known.
+abbrev pub spill-left : Ranges → List ℕ → ℕ
+spill-left R ss = last-spill R 0 (first-spill (R .lead) ss) (drop (R .lead) ss)
+
 -- These numbers are those of a recording that has taken these symbols.
 pub record Holds (R : Ranges) (ss : List ℕ) (h : Held) : Type 0 where
   pub count : h .count ≡ length ss
-  pub spill : h .spill ≡ last-spill R 0 (first-spill (R .lead) ss) (drop (R .lead) ss)
+  pub spill : h .spill ≡ spill-left R ss
   pub waiting : h .waiting ≡ unpaired (drop (R .lead) ss)
 
 -- An open recording that has accepted these blocks. Its spill is below its range, and its waiting block below B.

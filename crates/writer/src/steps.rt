@@ -2,6 +2,7 @@
 ghost use mathlib.Core.Path.{_≡_};
 ghost use mathlib.Core.List.{List, [], _∷_, _++_};
 ghost use Prim.Native.Nat.{ℕ, _+_, _-_, _*_, _^_, _<_, _≤_};
+ghost use lib.Dec.{ltb};
 ghost use lib.ListN.{length, take, drop};
 ghost use Rattle.std.specs.shelf.Lists.{All};
 ghost use Rattle.std.specs.Results.{Cases};
@@ -136,6 +137,16 @@ fn front_below(base: u64, piece: &[u64]) -> usize
     piece.len()
 }
 
+// Whether a buffer of `room` blocks takes what would be written.
+fn check_room(room: usize, needed: u64) -> Result<(), Fault>
+    ensures { λ r. ⌜ says r ≡ judged ((12, needed, ltb room needed) ∷ []) tt ⌝ }
+{
+    if (room as u64) < needed {
+        return Err(Fault::Piece(PieceFault::BufferTooShort(needed)));
+    }
+    Ok(())
+}
+
 // What stands against an offer of this piece into a buffer of `room` blocks.
 pub(crate) fn check_offer<S: Schedule>(
     schedule: &S,
@@ -155,11 +166,10 @@ pub(crate) fn check_offer<S: Schedule>(
     if front < piece.len() {
         return Err(Fault::Piece(PieceFault::OfferedTooLarge(front as u64)));
     }
-    let needed = due(schedule, count + piece.len() as u64) - due(schedule, count);
-    if (room as u64) < needed {
-        return Err(Fault::Piece(PieceFault::BufferTooShort(needed)));
-    }
-    Ok(())
+    check_room(
+        room,
+        due(schedule, count + piece.len() as u64) - due(schedule, count),
+    )
 }
 
 // How many end marks follow `count` blocks.
@@ -179,11 +189,10 @@ pub(crate) fn check_close<S: Schedule>(schedule: &S, count: u64, room: usize) ->
     requires { ⌜ count < 2 ^ 18 ⌝ }
     ensures { λ r. ⌜ says r ≡ judged (close-rows (ranges (now (schedule .entry))) count room) tt ⌝ }
 {
-    let needed = count + mark_count(schedule, count) as u64 + 1 - due(schedule, count);
-    if (room as u64) < needed {
-        return Err(Fault::Piece(PieceFault::BufferTooShort(needed)));
-    }
-    Ok(())
+    check_room(
+        room,
+        count + mark_count(schedule, count) as u64 + 1 - due(schedule, count),
+    )
 }
 
 // Takes the end marks, and writes the groups that they complete.

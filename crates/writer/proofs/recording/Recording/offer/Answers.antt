@@ -4,8 +4,9 @@ use mathlib.Core.List.{List, _++_}
 use lib.ListN.{length}
 use native.Mathlib.Omega.{arith}
 use Rattle.std.proofs.shelf.Elements.{all-weaker}
+use Rattle.schedule.proofs.Judged.{judged-as}
 use Rattle.writer.specs.Calls.{offer-rows}
-use Rattle.writer.proofs.Rows.{fine, judged-as}
+use Rattle.writer.proofs.Rows.{fine}
 use Rattle.writer.proofs.Opening.{open-from, valid-append}
 use Rattle.writer.proofs.recording.Recording.offer.Needs as need
 
@@ -41,7 +42,7 @@ returns g c =
       offers = record {
         answers = judged-as (offer-rows R (h .count) piece (length (c .args .buffer .now))) tt tt _ _ (c .in-Continue-check-offer .ensures tt) (ran .wrote);
         leaves = (
-          record { same-length = omega arith; behind = ran .behind },
+          record { fits = omega (arith, ok .room-for, ran .wrote); same-length = omega arith; behind = ran .behind },
           λ blocks o.
               let grows = ran .grows blocks (omega (arith, ok .fits)) (o .holds) in (
                 open-from R law (blocks ++ piece) _ (valid-append R law blocks piece (o .valid) (ok .below) (omega (arith, ok .fits, o .holds .count))) (grows .holds),
