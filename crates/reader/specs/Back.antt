@@ -18,5 +18,5 @@ carrier-rows R place j w = (21, place, leb (limit R j) (w / R .spill j)) ∷ []
 abbrev pub pair-rows : Ranges → ℕ → ℕ → List (ℕ × ℕ × Bool)
 pair-rows R place z =
     (22, place, leb (alphabet R * alphabet R) z)
-  ∷ (23, place, eqb (pair-of R z .0) (end-mark R) && not (eqb (pair-of R z .1) (end-mark R)))
-  ∷ []
+    ∷ (23, place, eqb (pair-of R z .0) (end-mark R) && not (eqb (pair-of R z .1) (end-mark R)))
+    ∷ []

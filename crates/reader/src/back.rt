@@ -55,7 +55,9 @@ pub fn first_pass_back<S: Schedule>(
 {
     let symbols = alphabet(schedule);
     let mark = end_mark(schedule);
-    let z = spill.saturating_mul(schedule.carrier(j)).saturating_add(carrier);
+    let z = spill
+        .saturating_mul(schedule.carrier(j))
+        .saturating_add(carrier);
     if z >= symbols * symbols {
         return Err(Fault::FirstPass(FirstPassFault::PairBeyondRange(place)));
     }

@@ -48,7 +48,7 @@ joins R j k y (s ∷ t ∷ ss) x e f =
       none-waits = more .none-waits;
     }
 
-same-first : (l : ℕ) (ss new : List ℕ) → l ≤ length ss → first-spill l (ss ++ new) ≡ first-spill l ss
+pub same-first : (l : ℕ) (ss new : List ℕ) → l ≤ length ss → first-spill l (ss ++ new) ≡ first-spill l ss
 same-first zero ss new h = refl
 same-first (suc l) [] new h = absurd (omega arith)
 same-first (suc l) (s ∷ ss) new h = refl

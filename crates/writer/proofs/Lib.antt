@@ -7,3 +7,5 @@ pub mod Opening
 pub mod Unique
 pub mod Shape
 pub mod Recorded
+pub mod Pushing
+pub mod Running

@@ -43,7 +43,7 @@ module _ (R : Ranges) (law : Lawful R) where
             ∙ ap (stream R) (sym same),
       )
 
-  none-written : complete R [] ≡ []
+  pub none-written : complete R [] ≡ []
   none-written = ap (groups R 0 (first-spill (R .lead) [])) (drop-nil (R .lead))
 
   pub writes-streams : Writes-streams R

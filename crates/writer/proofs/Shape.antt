@@ -72,12 +72,12 @@ module _ (R : Ranges) (law : Lawful R) where
       (λ z. omega (arith, number-below j r y h k, law .group-fits j l z))
       (split (j + R .lead) 1)
 
-  group-below : (j r y : ℕ) → j < R .steps → r < R .carrier j → y < R .spill j → Below (group R j r y)
+  pub group-below : (j r y : ℕ) → j < R .steps → r < R .carrier j → y < R .spill j → Below (group R j r y)
   group-below j r y l h k =
       in-blocks-below (R .lead) (R .base) j (r * R .spill j + y) (omega (arith, law .base-low))
       (λ e. single-below j r y e h k) (double-below j r y l h k)
 
-  closing-below : (j y : ℕ) → j ≤ R .steps → 1 ≤ j + R .lead → y < R .spill j → Below (group R j 0 y)
+  pub closing-below : (j y : ℕ) → j ≤ R .steps → 1 ≤ j + R .lead → y < R .spill j → Below (group R j 0 y)
   closing-below j y l h k =
       let top = spill-range R law j l .1 in
       in-blocks-below (R .lead) (R .base) j (0 * R .spill j + y) (omega (arith, law .base-low)) (λ e. absurd (omega arith))
@@ -95,7 +95,7 @@ module _ (R : Ranges) (law : Lawful R) where
       (spill-below R law j s t (omega arith) (v .0) (v .1 .0)))
 
   -- The symbols of a valid recording, and their count.
-  symbols-below : (blocks : List ℕ) → Valid R blocks → All (λ s. s < alphabet R) (symbols R blocks)
+  pub symbols-below : (blocks : List ℕ) → Valid R blocks → All (λ s. s < alphabet R) (symbols R blocks)
   symbols-below blocks v =
       let m = marked R (law .lead-high) (length blocks) in
       all-append (λ s. s < alphabet R) blocks (marks R (length blocks))

@@ -127,7 +127,7 @@ module _ (R : Ranges) (law : Lawful R) where
   before-mark (x ∷ xs) (y ∷ ys) ms ms′ v w e =
       ap₂ (λ (n : ℕ) (ns : List ℕ). n ∷ ns) (head-eq-of-cons-eq e) (before-mark xs ys ms ms′ (v .1) (w .1) (tail-eq-of-cons-eq e))
 
-  first-mark : (ms : List ℕ) → 1 ≤ length ms → take (length ms) (end-mark R ∷ end-mark R ∷ []) ≡ ms → (rest : List ℕ) × (ms ≡ end-mark R ∷ rest)
+  pub first-mark : (ms : List ℕ) → 1 ≤ length ms → take (length ms) (end-mark R ∷ end-mark R ∷ []) ≡ ms → (rest : List ℕ) × (ms ≡ end-mark R ∷ rest)
   first-mark [] h e = absurd (omega arith)
   first-mark (p ∷ ms) h e = (ms, ap (λ (n : ℕ). n ∷ ms) (sym (head-eq-of-cons-eq e)))
 
@@ -144,17 +144,17 @@ module _ (R : Ranges) (law : Lawful R) where
   abbrev stream-at : ℕ → List ℕ → List ℕ
   stream-at l blocks = closed R 0 (first-spill l (symbols R blocks)) (drop l (symbols R blocks))
 
-  tail-ended : (xs : List ℕ) (n : ℕ) → Below xs → n ≡ length xs + R .lead → Ended (R .base) (xs ++ marks R n)
+  pub tail-ended : (xs : List ℕ) (n : ℕ) → Below xs → n ≡ length xs + R .lead → Ended (R .base) (xs ++ marks R n)
   tail-ended xs n v e =
       let m = marked R (law .lead-high) n in
       ended xs (marks R n) v (m .some) (m .few) (omega (arith, m .even)) (m .marks-are)
 
-  tail-fits : (xs : List ℕ) (n : ℕ) → n ≡ length xs + R .lead → length xs < 2 * R .steps → 2 * 0 + length (xs ++ marks R n) ≤ 2 * R .steps
+  pub tail-fits : (xs : List ℕ) (n : ℕ) → n ≡ length xs + R .lead → length xs < 2 * R .steps → 2 * 0 + length (xs ++ marks R n) ≤ 2 * R .steps
   tail-fits xs n e h =
       let m = marked R (law .lead-high) n in
       omega (arith, length-append xs (marks R n), m .few, m .even)
 
-  lead-mark : first-spill 1 (symbols R []) ≡ R .base
+  pub lead-mark : first-spill 1 (symbols R []) ≡ R .base
   lead-mark =
       let m = marked R (law .lead-high) 0 in
       ap (λ (ms : List ℕ). getD ms 0 0) (first-mark (marks R 0) (m .some) (m .marks-are) .1)

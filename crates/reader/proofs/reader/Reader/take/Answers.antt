@@ -20,9 +20,9 @@ returns-in-Second-rest g c =
     let left = c .go-on-in-Second-rest .last .self .reading in
     let w = c .args .block * c .base-base .result + c .in-Second-rest .low in
     let leaves =
-        subst
-        (λ (h : Half). Cases answer (λ x. left ≡ after-group R (record { count = count; half = h }) w (brought x .1)) (λ _. left ≡ record { count = count; half = h }))
-        (c .in-Second-rest .is-0) (went .leaves) in
+    subst
+    (λ (h : Half). Cases answer (λ x. left ≡ after-group R (record { count = count; half = h }) w (brought x .1)) (λ _. left ≡ record { count = count; half = h }))
+    (c .in-Second-rest .is-0) (went .leaves) in
     record {
       schedule = went .schedule;
       takes =
