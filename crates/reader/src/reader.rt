@@ -10,7 +10,7 @@ ghost use Rattle.schedule.specs.Faults.{says, judged};
 ghost use Rattle.schedule.specs.Ranges.{end-mark};
 ghost use Rattle.writer.specs.Passes.{pair-number, pair-of, second-pass-back};
 ghost use Rattle.reader.specs.Reading.{Small, In-range, started, step-of, before-of, brought, found, hands-over, marked, pair-rows-before, closing-rows, group-rows};
-ghost use Rattle.reader.specs.Calls.{says-brought, after-group, Takes};
+ghost use Rattle.reader.specs.Calls.{says-brought, after-group, Takes, Stops};
 use crate::back::first_pass_back;
 use crate::back::second_pass_back;
 use crate::reading::Brought;
@@ -167,4 +167,28 @@ impl<S: Schedule> Reader<S> {
         };
         Ok(what)
     }
+
+    // Ends the reading, and uses the reader up. Refuses with 26 inside a stream, and then hands the reader back.
+    pub fn stop(self) -> Result<(), RefusedStop<S>>
+    where
+        S: Drop,
+        ensures { λ r. ⌜ Cases r (λ u. Stops (self .reading) (Ok u) (self .reading)) (λ e. Stops (self .reading) (Err (e .fault)) (e .reader .reading) × (e .reader .schedule ≡ self .schedule)) ⌝ }
+    {
+        let place = self.reading.count;
+        if place == 0 {
+            Ok(())
+        } else {
+            Err(RefusedStop {
+                reader: self,
+                fault: Fault::Closing(ClosingFault::CutShort(place)),
+            })
+        }
+    }
+}
+
+// A refused stop: the reader, as it was, and the fault.
+#[derive(Drop)]
+pub struct RefusedStop<S: Schedule> {
+    pub reader: Reader<S>,
+    pub fault: Fault,
 }

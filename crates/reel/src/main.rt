@@ -1,7 +1,10 @@
 // Reads lines from standard input, and acts on each by its letter. docs/REEL.md has the lines.
+use lane::longest_recording;
+use lane::open_lane;
+use reader::reader::Reader;
+use reader::reading::Brought;
 use schedule::fault::Fault;
 use schedule::interface::Schedule;
-use schedule::interface::longest;
 use schedule::lose::Lose;
 use schedule::lose::LoseSchedule;
 use schedule::sole::Sole;
@@ -13,11 +16,12 @@ use writer::recording::Recording;
 // How many bytes of standard input count.
 const MOST: usize = 32768;
 
-// An open recording on a schedule.
+// An open recording and a reader on one schedule.
 #[derive(Drop)]
 struct Lane<S: Schedule> {
     schedule: S,
     recording: Recording<S>,
+    reader: Reader<S>,
 }
 
 // What is open.
@@ -46,11 +50,13 @@ fn print_blocks(rt: &LibcRuntime, blocks: &[u64]) -> io::Result<()> {
 }
 
 fn open<S: Schedule + Copy>(rt: &LibcRuntime, width: u64, schedule: S) -> io::Result<Lane<S>> {
-    let n = longest(&schedule);
+    let n = longest_recording(&schedule);
     println!(rt, " {width} {n}")?;
+    let (recording, reader) = open_lane(schedule);
     Ok(Lane {
         schedule,
-        recording: Recording::open(schedule),
+        recording,
+        reader,
     })
 }
 
@@ -91,25 +97,71 @@ fn close<S: Schedule + Copy>(rt: &LibcRuntime, lane: Lane<S>) -> io::Result<Lane
     let Lane {
         schedule,
         recording,
+        reader,
     } = lane;
     let mut buffer = [0u64; 4];
     print!(rt, "C")?;
-    match recording.close(&mut buffer) {
+    let recording = match recording.close(&mut buffer) {
         Ok(n) => {
             print_blocks(rt, &buffer[0..n])?;
-            Ok(Lane {
-                schedule,
-                recording: Recording::open(schedule),
-            })
+            Recording::open(schedule)
         }
         Err(refused) => {
             print_fault(rt, refused.fault)?;
-            Ok(Lane {
-                schedule,
-                recording: refused.recording,
-            })
+            refused.recording
+        }
+    };
+    Ok(Lane {
+        schedule,
+        recording,
+        reader,
+    })
+}
+
+fn print_brought(rt: &LibcRuntime, brought: Brought) -> io::Result<()> {
+    match brought {
+        Brought::Nothing => print!(rt, " -"),
+        Brought::One(x) => print!(rt, " {x}"),
+        Brought::Two(x, y) => print!(rt, " {x} {y}"),
+        Brought::End => print!(rt, " /"),
+        Brought::OneThenEnd(x) => print!(rt, " {x} /"),
+    }
+}
+
+// Takes blocks up to the first that is refused.
+fn take<S: Schedule>(rt: &LibcRuntime, lane: &mut Lane<S>, blocks: &[u64]) -> io::Result<()> {
+    print!(rt, "T")?;
+    for block in blocks {
+        match lane.reader.take(*block) {
+            Ok(brought) => print_brought(rt, brought)?,
+            Err(fault) => return print_fault(rt, fault),
         }
     }
+    println!(rt, "")
+}
+
+fn stop<S: Schedule + Copy>(rt: &LibcRuntime, lane: Lane<S>) -> io::Result<Lane<S>> {
+    let Lane {
+        schedule,
+        recording,
+        reader,
+    } = lane;
+    print!(rt, "E")?;
+    let reader = match reader.stop() {
+        Ok(()) => {
+            println!(rt, "")?;
+            Reader::new(schedule)
+        }
+        Err(refused) => {
+            print_fault(rt, refused.fault)?;
+            refused.reader
+        }
+    };
+    Ok(Lane {
+        schedule,
+        recording,
+        reader,
+    })
 }
 
 fn act_on<S: Schedule + Copy>(
@@ -124,6 +176,11 @@ fn act_on<S: Schedule + Copy>(
             Ok(lane)
         }
         ('C', []) => close(rt, lane),
+        ('T', blocks) => {
+            take(rt, &mut lane, blocks)?;
+            Ok(lane)
+        }
+        ('E', []) => stop(rt, lane),
         _ => {
             unknown(rt)?;
             Ok(lane)
