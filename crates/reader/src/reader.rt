@@ -98,6 +98,16 @@ fn complete<S: Schedule>(
     Ok((carrier, what))
 }
 
+// Before the first block of a stream.
+fn at_start() -> Reading
+    ensures { λ r. ⌜ r ≡ started ⌝ }
+{
+    Reading {
+        count: 0,
+        half: Half::First(0, 0),
+    }
+}
+
 #[derive(Drop)]
 pub struct Reader<S: Schedule> {
     schedule: S,
@@ -113,10 +123,7 @@ impl<S: Schedule> Reader<S> {
     {
         Reader {
             schedule,
-            reading: Reading {
-                count: 0,
-                half: Half::First(0, 0),
-            },
+            reading: at_start(),
         }
     }
 
@@ -155,10 +162,7 @@ impl<S: Schedule> Reader<S> {
         let place = self.reading.count;
         let (carrier, what) = complete(&self.schedule, step, before, w, place)?;
         self.reading = if ends(what) {
-            Reading {
-                count: 0,
-                half: Half::First(0, 0),
-            }
+            at_start()
         } else {
             Reading {
                 count: place + 1,
