@@ -1,5 +1,4 @@
-#!/usr/bin/env python3
-"""An independent implementation of docs/FORMAT.md. Prints what the program `cases` has to print: crates/cases/stdout."""
+"""Schedules and streams by docs/FORMAT.md, apart from the Rattle code."""
 
 STEPS = {'SOLE': {5: 2, 8: 6, 16: 91, 24: 1448}, 'LOSE': {5: 2, 8: 5, 16: 90, 24: 1448}}
 
@@ -43,34 +42,3 @@ def stream(S, blocks):
         y, j = spill, j + 1
     group(j, y)
     return out
-
-
-def sample(S, n):
-    return [(i * i * 7919 + i * 104729 + 12345) % S.B for i in range(n)]
-
-
-def checksum(blocks):
-    total = 0
-    for i, x in enumerate(blocks):
-        total = (total * 31 + x + i) % 1000003
-    return total
-
-
-def words(numbers):
-    return ' '.join(str(x) for x in numbers)
-
-
-def main():
-    lines = []
-    for kind in ('SOLE', 'LOSE'):
-        for width in (5, 8, 16, 24):
-            S = Schedule(kind, width)
-            out = stream(S, sample(S, S.N))
-            lines.append(f'{kind} {width}: {S.N} blocks, {len(out)} written: {words(out[:3])} .. {words(out[-3:])}, checksum {checksum(out)}')
-    for line in lines:
-        print(line)
-    print(f'{len(lines)} cases')
-
-
-if __name__ == '__main__':
-    main()
