@@ -64,6 +64,42 @@ def offers():
     lines.append(f'close into 3: X 12 {len(recording.close())}')
 
 
+def packed(width, data):
+    size = width // 8
+    filled = list(data)
+    if len(filled) % size:
+        filled.append(0x80)
+        filled += [0] * (-len(filled) % size)
+    return [sum(b << (8 * k) for k, b in enumerate(filled[i:i + size])) for i in range(0, len(filled), size)]
+
+
+def pack(width, data, room):
+    buffer = [7] * room
+    if width not in (5, 8, 16, 24):
+        answer = 'X 1 0'
+    elif width == 5:
+        answer = 'X 40 0'
+    else:
+        blocks = packed(width, data)
+        if len(blocks) > room:
+            answer = f'X 41 {len(blocks)}'
+        else:
+            buffer[:len(blocks)] = blocks
+            answer = f'{len(blocks)} written'
+    lines.append(f'pack {len(data)} bytes at {width} into {room}: {answer},{words(buffer)}')
+
+
+def packs():
+    data = [0x41, 0x80, 0xff, 0, 7, 0x80, 0x10]
+    for width in (5, 8, 12, 16, 24):
+        for count in range(8):
+            pack(width, data[:count], 8)
+    pack(8, data, 6)
+    pack(16, data, 3)
+    pack(24, data, 2)
+    pack(24, data, 3)
+
+
 def main():
     for width in (5, 7, 8, 16, 24):
         longest('SOLE', width) if width != 7 else lines.append('SOLE: X 1 0')
@@ -78,6 +114,7 @@ def main():
     cuts('LOSE')
     for blocks in ([0, 1, 8, 3, 3, 1], [12, 7, 9, 10, 8, 1], [31, 31, 0, 1, 0, 1], [0, 2, 1, 1, 0, 0], [14, 9, 2, 1, 14, 9]):
         takes('LOSE', blocks)
+    packs()
     print('\n'.join(lines))
     print(f'{len(lines)} cases')
 

@@ -1,7 +1,9 @@
 // Worked cases, a line each, and a count at the end. tools/cases_reference.py works out what they have to print.
+mod packing;
 mod reading;
 mod writing;
 
+use packing::pack_cases;
 use reading::read_back;
 use reading::take_all;
 use schedule::fault::Fault;
@@ -28,7 +30,11 @@ fn print_all(rt: &LibcRuntime, blocks: &[u64]) -> io::Result<()> {
 fn checksum(blocks: &[u64]) -> u64 {
     let mut total = 0u64;
     for (i, x) in blocks.iter().enumerate() {
-        total = total.wrapping_mul(31).wrapping_add(*x).wrapping_add(i as u64) % 1000003;
+        total = total
+            .wrapping_mul(31)
+            .wrapping_add(*x)
+            .wrapping_add(i as u64)
+            % 1000003;
     }
     total
 }
@@ -144,10 +150,22 @@ fn print_answer(rt: &LibcRuntime, name: &str, answer: Result<usize, Fault>) -> i
 fn offer_cases(rt: &LibcRuntime, sole: Sole) -> io::Result<u64> {
     let mut buffer = [7u64; 3];
     let mut recording = Recording::open(sole);
-    print_answer(rt, "offer 1 2 3 4", recording.offer(&[1, 2, 3, 4], &mut buffer))?;
-    print_answer(rt, "offer 1 32 3", recording.offer(&[1, 32, 3], &mut buffer))?;
+    print_answer(
+        rt,
+        "offer 1 2 3 4",
+        recording.offer(&[1, 2, 3, 4], &mut buffer),
+    )?;
+    print_answer(
+        rt,
+        "offer 1 32 3",
+        recording.offer(&[1, 32, 3], &mut buffer),
+    )?;
     print_answer(rt, "offer 1 2 into none", recording.offer(&[1, 2], &mut []))?;
-    print_answer(rt, "offer 1 31 3", recording.offer(&[1, 31, 3], &mut buffer))?;
+    print_answer(
+        rt,
+        "offer 1 31 3",
+        recording.offer(&[1, 31, 3], &mut buffer),
+    )?;
     print_answer(rt, "offer none", recording.offer(&[], &mut []))?;
     print_answer(rt, "offer 5", recording.offer(&[5], &mut buffer))?;
     print!(rt, "buffer")?;
@@ -203,6 +221,8 @@ fn lose_cases(rt: &LibcRuntime) -> io::Result<u64> {
 }
 
 fn main(rt: LibcRuntime) -> io::Result<()> {
-    let cases = sole_cases(&rt)?.saturating_add(lose_cases(&rt)?);
+    let cases = sole_cases(&rt)?
+        .saturating_add(lose_cases(&rt)?)
+        .saturating_add(pack_cases(&rt)?);
     println!(rt, "{cases} cases")
 }

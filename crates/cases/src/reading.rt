@@ -22,7 +22,7 @@ fn print_brought(rt: &LibcRuntime, brought: Brought) -> io::Result<()> {
 }
 
 // Takes these blocks, refused ones too, and then stops.
-pub fn take_all<S: Schedule + Drop>(
+pub(crate) fn take_all<S: Schedule + Drop>(
     rt: &LibcRuntime,
     schedule: S,
     blocks: &[u64],
@@ -45,7 +45,7 @@ pub fn take_all<S: Schedule + Drop>(
 }
 
 // The blocks that a stream brings, with a number beyond every block for an end; short where a block is refused.
-pub fn read_back<S: Schedule + Drop>(
+pub(crate) fn read_back<S: Schedule + Drop>(
     rt: &LibcRuntime,
     schedule: S,
     stream: &[u64],

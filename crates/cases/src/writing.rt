@@ -4,11 +4,13 @@ use std::io;
 use writer::recording::Recording;
 
 // n blocks that look like any.
-pub fn sample<S: Schedule>(rt: &LibcRuntime, schedule: &S, n: u64) -> io::Result<Vec<u64>> {
+pub(crate) fn sample<S: Schedule>(rt: &LibcRuntime, schedule: &S, n: u64) -> io::Result<Vec<u64>> {
     let base = schedule.base();
     let mut blocks = Vec::new(rt.alloc());
     for i in 0..n {
-        let x = i.wrapping_mul(i).wrapping_mul(7919).wrapping_add(i.wrapping_mul(104729));
+        let x = i.wrapping_mul(i)
+            .wrapping_mul(7919)
+            .wrapping_add(i.wrapping_mul(104729));
         blocks.push(x.wrapping_add(12345) % base)?;
     }
     Ok(blocks)
@@ -28,7 +30,7 @@ fn offer<S: Schedule>(
 }
 
 // The stream of these blocks, offered in pieces of 0, 1, 2, .. blocks.
-pub fn written<S: Schedule + Drop>(
+pub(crate) fn written<S: Schedule + Drop>(
     rt: &LibcRuntime,
     schedule: S,
     blocks: &[u64],
@@ -49,7 +51,7 @@ pub fn written<S: Schedule + Drop>(
 }
 
 // The stream of these blocks, cut where a bit of `cuts` is set, low bit first.
-pub fn written_cut<S: Schedule + Drop>(
+pub(crate) fn written_cut<S: Schedule + Drop>(
     rt: &LibcRuntime,
     schedule: S,
     blocks: &[u64],
