@@ -64,6 +64,64 @@ def offers():
     lines.append(f'close into 3: X 12 {len(recording.close())}')
 
 
+def lookup(S, blocks, p):
+    first = 0 if p <= S.lead else max(2 * ((p - 1 - S.lead) // 2) + S.lead - 1, 0)
+    j = max(p - 1 - S.lead, 0) // 2
+    end = 2 if p <= S.lead else 2 * (j + 2) + S.lead - 1
+    if p == 0 or p > S.lead + 2 * S.K or len(blocks) < end:
+        raise Refused(30, p)
+    part = blocks[first:end]
+    for i, x in enumerate(part):
+        if x >= S.B:
+            raise Refused(20, first + i)
+
+    def group(j, bs, last):
+        w = bs[0] if len(bs) == 1 else bs[0] + S.B * bs[1]
+        r, y = divmod(w, S.Y(j))
+        if r >= (1 if j == S.K else S.C(j)):
+            raise Refused(21, last)
+        return r, y
+
+    if p <= S.lead:
+        symbol = group(0, part, 1)[1]
+    else:
+        r, _ = group(j, part[:-2], end - 3)
+        _, y = group(j + 1, part[-2:], end - 1)
+        z = y * S.C(j) + r
+        if z >= S.A * S.A:
+            raise Refused(22, end - 1)
+        t, s = divmod(z, S.A)
+        if s == S.B and t != S.B:
+            raise Refused(23, end - 1)
+        symbol = (s, t)[(p - 1 - S.lead) % 2]
+    if symbol == S.B:
+        raise Refused(30, p)
+    return symbol
+
+
+def lookups(kind, width):
+    S = Schedule(kind, width)
+    out, found, total = stream(S, sample(S, S.N)), 0, 0
+    for p in range(S.N + 5):
+        try:
+            number, value = 0, lookup(S, out, p)
+            found += 1
+        except Refused as refused:
+            number, value = refused.args
+        total = (total * 31 + number + value) % 1000003
+    lines.append(f'{kind} {width}: {found} blocks found, checksum {total}')
+
+
+def looks(kind, blocks):
+    S, line = Schedule(kind, 5), f'{kind} 5 looking in{words(blocks)}:'
+    for p in range(7):
+        try:
+            line += f' {lookup(S, blocks, p)}'
+        except Refused as refused:
+            line += refused.text
+    lines.append(line)
+
+
 def packed(width, data):
     size = width // 8
     filled = list(data)
@@ -102,18 +160,32 @@ def packs():
 
 def main():
     for width in (5, 7, 8, 16, 24):
-        longest('SOLE', width) if width != 7 else lines.append('SOLE: X 1 0')
+        if width == 7:
+            lines.append('SOLE: X 1 0')
+        else:
+            longest('SOLE', width)
+            lookups('SOLE', width)
     cuts('SOLE')
     for blocks in ([1, 2, 1, 32, 0], [0, 2, 1, 0, 2], [0, 16, 31, 1, 2], [0, 12, 30, 0, 0], [0, 1, 0, 2, 1], [0, 6, 2, 2, 1],
                    [0, 0, 0, 0, 0], [0, 0, 0, 8, 1], [12, 3, 26, 6, 1], [12, 32, 40, 99, 3], [12]):
         takes('SOLE', blocks)
+    for blocks in ([12, 3, 26, 6, 1], [0, 0, 27, 6, 1], [12, 3, 26, 6, 32], [32, 3, 26, 6, 1], [12, 31, 31, 6, 1], [1, 2, 1, 6, 1],
+                   [0, 1, 0, 6, 1], [0, 0, 27, 8, 1], [31, 3, 26, 31, 31], [0, 2, 1], [12, 3], []):
+        looks('SOLE', blocks)
     offers()
     lines.extend(['text 25 into 8: 7', 'text 26 into 8: X 12 9', 'text 13 into none: 0'])
     for width in (5, 8, 16, 24, 32):
-        longest('LOSE', width) if width != 32 else lines.append('LOSE: X 1 0')
+        if width == 32:
+            lines.append('LOSE: X 1 0')
+        else:
+            longest('LOSE', width)
+            lookups('LOSE', width)
     cuts('LOSE')
     for blocks in ([0, 1, 8, 3, 3, 1], [12, 7, 9, 10, 8, 1], [31, 31, 0, 1, 0, 1], [0, 2, 1, 1, 0, 0], [14, 9, 2, 1, 14, 9]):
         takes('LOSE', blocks)
+    for blocks in ([12, 7, 9, 10, 8, 1], [12, 7, 9, 10, 8, 40], [33, 7, 9, 10, 8, 1], [31, 31, 9, 10, 8, 1], [0, 1, 31, 31, 0, 1],
+                   [0, 1], [8, 3, 3, 1]):
+        looks('LOSE', blocks)
     packs()
     print('\n'.join(lines))
     print(f'{len(lines)} cases')

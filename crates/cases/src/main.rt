@@ -1,8 +1,11 @@
 // Worked cases, a line each, and a count at the end. tools/cases_reference.py works out what they have to print.
+mod looking;
 mod packing;
 mod reading;
 mod writing;
 
+use looking::lookup_case;
+use looking::lookup_longest;
 use packing::pack_cases;
 use reading::read_back;
 use reading::take_all;
@@ -135,6 +138,42 @@ fn lose_takes(rt: &LibcRuntime, lose: Lose) -> io::Result<u64> {
     Ok(cases)
 }
 
+// Lookups in lawful and in damaged streams.
+fn sole_lookups(rt: &LibcRuntime, sole: Sole) -> io::Result<u64> {
+    let mut cases = 0u64;
+    for stream in [
+        [12, 3, 26, 6, 1],
+        [0, 0, 27, 6, 1],
+        [12, 3, 26, 6, 32],
+        [32, 3, 26, 6, 1],
+        [12, 31, 31, 6, 1],
+        [1, 2, 1, 6, 1],
+        [0, 1, 0, 6, 1],
+        [0, 0, 27, 8, 1],
+        [31, 3, 26, 31, 31],
+    ] {
+        cases = cases.saturating_add(lookup_case(rt, "SOLE", &sole, &stream)?);
+    }
+    cases = cases.saturating_add(lookup_case(rt, "SOLE", &sole, &[0, 2, 1])?);
+    cases = cases.saturating_add(lookup_case(rt, "SOLE", &sole, &[12, 3])?);
+    Ok(cases.saturating_add(lookup_case(rt, "SOLE", &sole, &[])?))
+}
+
+fn lose_lookups(rt: &LibcRuntime, lose: Lose) -> io::Result<u64> {
+    let mut cases = 0u64;
+    for stream in [
+        [12, 7, 9, 10, 8, 1],
+        [12, 7, 9, 10, 8, 40],
+        [33, 7, 9, 10, 8, 1],
+        [31, 31, 9, 10, 8, 1],
+        [0, 1, 31, 31, 0, 1],
+    ] {
+        cases = cases.saturating_add(lookup_case(rt, "LOSE", &lose, &stream)?);
+    }
+    cases = cases.saturating_add(lookup_case(rt, "LOSE", &lose, &[0, 1])?);
+    Ok(cases.saturating_add(lookup_case(rt, "LOSE", &lose, &[8, 3, 3, 1])?))
+}
+
 fn print_answer(rt: &LibcRuntime, name: &str, answer: Result<usize, Fault>) -> io::Result<()> {
     match answer {
         Ok(n) => println!(rt, "{name}: {n}"),
@@ -190,7 +229,11 @@ fn sole_cases(rt: &LibcRuntime) -> io::Result<u64> {
     let mut cases = 0u64;
     for width in [5, 7, 8, 16, 24] {
         match Sole::new(width) {
-            Ok(sole) => longest_case(rt, "SOLE", width, sole)?,
+            Ok(sole) => {
+                longest_case(rt, "SOLE", width, sole)?;
+                lookup_longest(rt, "SOLE", width, sole)?;
+                cases = cases.saturating_add(1);
+            }
             Err(fault) => print_answer(rt, "SOLE", Err(fault))?,
         }
         cases = cases.saturating_add(1);
@@ -198,6 +241,7 @@ fn sole_cases(rt: &LibcRuntime) -> io::Result<u64> {
     if let Ok(sole) = Sole::new(5) {
         cases = cases.saturating_add(cut_cases(rt, "SOLE", sole)?);
         cases = cases.saturating_add(sole_takes(rt, sole)?);
+        cases = cases.saturating_add(sole_lookups(rt, sole)?);
         cases = cases.saturating_add(offer_cases(rt, sole)?);
         cases = cases.saturating_add(text_cases(rt)?);
     }
@@ -208,7 +252,11 @@ fn lose_cases(rt: &LibcRuntime) -> io::Result<u64> {
     let mut cases = 0u64;
     for width in [5, 8, 16, 24, 32] {
         match Lose::new(width) {
-            Ok(lose) => longest_case(rt, "LOSE", width, lose)?,
+            Ok(lose) => {
+                longest_case(rt, "LOSE", width, lose)?;
+                lookup_longest(rt, "LOSE", width, lose)?;
+                cases = cases.saturating_add(1);
+            }
             Err(fault) => print_answer(rt, "LOSE", Err(fault))?,
         }
         cases = cases.saturating_add(1);
@@ -216,6 +264,7 @@ fn lose_cases(rt: &LibcRuntime) -> io::Result<u64> {
     if let Ok(lose) = Lose::new(5) {
         cases = cases.saturating_add(cut_cases(rt, "LOSE", lose)?);
         cases = cases.saturating_add(lose_takes(rt, lose)?);
+        cases = cases.saturating_add(lose_lookups(rt, lose)?);
     }
     Ok(cases)
 }

@@ -194,10 +194,10 @@ module _ (R : Ranges) (law : Lawful R) where
   end-brought : (s t : ℕ) → t ≡ m → hands-over R (s ∷ t ∷ []) ≡ (until-mark m (s ∷ t ∷ []), true)
   end-brought s t e = ap (λ (b : Bool). (until-mark m (s ∷ t ∷ []), b)) (rw (is-eqb t m e) (or-true (eqb s m) false))
 
-  below-limit : (j r : ℕ) → j < R .steps → r < R .carrier j → r < limit R j
+  pub below-limit : (j r : ℕ) → j < R .steps → r < R .carrier j → r < limit R j
   below-limit j r l h = let a = not-eqb j (R .steps) (λ e. omega arith) in rw a h
 
-  zero-below-limit : (j : ℕ) → j ≤ R .steps → 0 < limit R j
+  pub zero-below-limit : (j : ℕ) → j ≤ R .steps → 0 < limit R j
   zero-below-limit j h = ⊎-elim (λ l. below-limit j 0 l (omega (arith, law .carrier-low j l))) at-last (split j (R .steps))
     where
       at-last : R .steps ≤ j → 0 < limit R j

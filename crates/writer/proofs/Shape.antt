@@ -25,7 +25,7 @@ groups-length R j y [] = refl
 groups-length R j y (s ∷ []) = refl
 groups-length R j y (s ∷ t ∷ ss) = omega (arith, groups-length R (suc j) (first-pass R (suc j) s t .1) ss)
 
-first-length : (R : Ranges) → R .lead ≤ 1 → (y : ℕ) (ss : List ℕ) → length (groups R 0 y ss) ≡ 2 * (length ss / 2) + R .lead - 1
+pub first-length : (R : Ranges) → R .lead ≤ 1 → (y : ℕ) (ss : List ℕ) → length (groups R 0 y ss) ≡ 2 * (length ss / 2) + R .lead - 1
 first-length R h y [] = omega arith
 first-length R h y (s ∷ []) = omega arith
 first-length R h y (s ∷ t ∷ ss) =

@@ -1,4 +1,5 @@
 // The writer: a recording becomes a stream.
+pub mod blocks;
 mod held;
 mod passes;
 pub mod recording;

@@ -10,7 +10,8 @@ ghost use Rattle.schedule.specs.Faults.{says, judged};
 ghost use Rattle.schedule.specs.Ranges.{longest};
 ghost use Rattle.writer.specs.Stream.{marks, complete, stream};
 ghost use Rattle.writer.specs.Holding.{Holds, Grows, Sized, Small, due, group-blocks};
-ghost use Rattle.writer.specs.Calls.{front-below, offer-writes, offer-rows, close-writes, close-rows};
+ghost use Rattle.writer.specs.Calls.{offer-writes, offer-rows, close-writes, close-rows};
+use crate::blocks::front_below;
 use crate::held::Group;
 use crate::held::Held;
 use crate::passes::first_pass;
@@ -123,18 +124,6 @@ fn due<S: Schedule>(schedule: &S, n: u64) -> u64
 {
     let lead = schedule.lead();
     (2 * (n.saturating_sub(lead) / 2) + lead).saturating_sub(1)
-}
-
-// How many blocks stand before the first that is `base` or more.
-fn front_below(base: u64, piece: &[u64]) -> usize
-    ensures { λ r. ⌜ r ≡ front-below base (now (piece .entry)) ⌝ }
-{
-    for (i, x) in piece.iter().enumerate() {
-        if *x >= base {
-            return i;
-        }
-    }
-    piece.len()
 }
 
 // Whether a buffer of `room` blocks takes what would be written.

@@ -6,7 +6,7 @@ use native.Mathlib.Omega.{arith}
 use Rattle.std.proofs.shelf.Lists.{drop-more, drop-all}
 use Rattle.std.proofs.shelf.Ways.{tells}
 use Rattle.writer.specs.Calls.{front-below}
-use Rattle.writer.proofs.steps.front_below.Needs as need
+use Rattle.writer.proofs.blocks.front_below.Needs as need
 
 stops : (base x : ℕ) (xs : List ℕ) → base ≤ x → front-below base (x ∷ xs) ≡ 0
 stops base x xs h = grind (arith, tells)
