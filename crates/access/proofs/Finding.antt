@@ -1,40 +1,30 @@
 -- What a lookup finds in the stream of a recording.
-use Prim.Native.Nat.{ℕ, zero, suc, _+_, _-_, _*_, _/_, _%_, _<_, _≤_}
-use mathlib.Core.Path.{_≡_, refl, sym, ap, ap₂, subst, _∙_}
-use mathlib.Core.Logic.{_⊎_, inl, inr, ⊎-elim}
-use mathlib.Core.Bool.{Bool, true, false, cond, not, _&&_, _||_}
-use mathlib.Core.List.{List, [], _∷_, _++_}
+use Prim.Native.Nat.{ℕ, zero, suc, _+_, _-_, _*_, _%_, _<_, _≤_}
+use mathlib.Core.Path.{_≡_, refl, sym, ap, ap₂, _∙_}
+use mathlib.Core.Bool.{Bool, false, cond, not, _&&_}
+use mathlib.Core.List.{List, _∷_, _++_}
 use native.Mathlib.Nat.{div-add-mod', mod-lt}
 use native.Mathlib.Omega.{arith}
 use lib.Dec.{leb, ltb, eqb}
 use lib.ListN.{length, getD, take, drop}
-use Rattle.std.specs.declared.result.Result.{Result}
-use Rattle.std.specs.declared.result.Result.the-variants.{Ok, Err}
 use Rattle.std.specs.shelf.Lists.{All}
-use Rattle.std.proofs.shelf.Ways.{tells}
-use Rattle.std.proofs.shelf.Lists.{length-append, length-take-le, length-drop, take-append-drop, take-at, drop-more, getD-drop}
+use Rattle.std.proofs.shelf.Lists.{take-at}
 use Rattle.std.proofs.shelf.Elements.{all-drop, all-take}
-use Rattle.schedule.specs.declared.fault.Fault.{Fault}
-use Rattle.schedule.specs.Faults.{says, judged}
+use Rattle.schedule.specs.Faults.{judged}
 use Rattle.schedule.specs.Ranges.{Ranges, Lawful, alphabet, end-mark}
 use Rattle.schedule.proofs.Judged.{Clear, clear-judged, judged-then}
-use Rattle.schedule.proofs.Sizes.{split}
-use Rattle.writer.specs.Stream.{Valid, marks, symbols, first-spill, first-pass, in-blocks, group, closed, stream}
+use Rattle.writer.specs.Stream.{first-spill, first-pass, in-blocks, closed}
 use Rattle.writer.specs.Holding.{last-spill}
 use Rattle.writer.specs.Passes.{pair-number, pair-of, second-pass-back}
 use Rattle.writer.specs.Calls.{front-below}
 use Rattle.writer.proofs.Inverse.{passes-taken-back, number-back, pair-below, spill-below}
 use Rattle.writer.proofs.Numbers.{group-length}
-use Rattle.writer.proofs.Opening.{last-spill-below, first-below}
-use Rattle.writer.proofs.Closing.{Marked, marked}
-use Rattle.writer.proofs.Shape.{symbols-below, stream-shape}
+use Rattle.writer.proofs.Opening.{last-spill-below}
 use Rattle.reader.specs.Back.{limit, carrier-rows}
-use Rattle.reader.proofs.Tests.{is-leb, not-leb, is-eqb, not-eqb}
-use Rattle.access.specs.Lookup.{start, part, earlier, later, pair-in, no-place, large-rows, groups-rows, mark-rows, part-symbol, part-rows, pair-symbol, pair-place-rows, lead-symbol, lead-place-rows, lookup-rows, symbol, Looks-up}
+use Rattle.reader.proofs.Tests.{not-leb}
+use Rattle.access.specs.Lookup.{start, part, earlier, later, pair-in, no-place, large-rows, groups-rows, mark-rows, pair-symbol, pair-place-rows, lead-symbol, lead-place-rows}
 use Rattle.lane.proofs.Through.{below-limit}
 use Rattle.access.proofs.Fronts.{none-large}
-use Rattle.access.proofs.Placing.{there, at-lead, at-pair}
-use Rattle.access.proofs.Symbols.{is-block, block-below, is-mark, is-symbol, in-order}
 use Rattle.access.proofs.Middle.{Headed, headed, head, earlier-number, later-number}
 
 -- Rows of which none holds, and then one more.

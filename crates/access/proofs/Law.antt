@@ -1,15 +1,14 @@
 -- On the stream of a recording, a lookup answers its blocks and refuses every other place.
 use Prim.Native.Nat.{ℕ, zero, suc, _+_, _-_, _*_, _/_, _%_, _<_, _≤_}
-use mathlib.Core.Path.{_≡_, refl, sym, ap, ap₂, subst, _∙_}
+use mathlib.Core.Path.{_≡_, refl, sym, ap, ap₂, _∙_}
 use mathlib.Core.Logic.{_⊎_, inl, inr, ⊎-elim}
-use mathlib.Core.Bool.{Bool, true, false, cond, not, _&&_, _||_}
-use mathlib.Core.List.{List, [], _∷_, _++_}
+use mathlib.Core.Bool.{Bool, true, false, cond, not, _&&_}
+use mathlib.Core.List.{List, _∷_, _++_}
 use native.Mathlib.Omega.{arith}
-use lib.Dec.{leb, ltb, eqb}
+use lib.Dec.{eqb}
 use lib.ListN.{length, getD, take, drop}
 use Rattle.std.specs.declared.result.Result.{Result}
 use Rattle.std.specs.declared.result.Result.the-variants.{Ok, Err}
-use Rattle.std.specs.shelf.Lists.{All}
 use Rattle.std.proofs.shelf.Ways.{tells}
 use Rattle.std.proofs.shelf.Lists.{length-append, length-take-le, length-drop, take-append-drop, drop-more, getD-drop}
 use Rattle.std.proofs.shelf.Elements.{all-drop, all-take}
@@ -19,7 +18,7 @@ use Rattle.schedule.specs.Ranges.{Ranges, Lawful, alphabet, end-mark}
 use Rattle.schedule.proofs.Sizes.{split}
 use Rattle.writer.specs.Stream.{Valid, marks, symbols, first-spill, closed, stream}
 use Rattle.writer.proofs.Opening.{first-below}
-use Rattle.writer.proofs.Closing.{Marked, marked}
+use Rattle.writer.proofs.Closing.{marked}
 use Rattle.writer.proofs.Shape.{symbols-below, stream-shape}
 use Rattle.reader.specs.Back.{carrier-rows}
 use Rattle.reader.proofs.Tests.{is-eqb, not-eqb}

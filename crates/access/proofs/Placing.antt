@@ -1,20 +1,19 @@
 -- The answers of a lookup's parts, put together.
-use Prim.Native.Nat.{ℕ, zero, suc, _+_, _-_, _*_, _/_, _%_, _<_, _≤_}
-use mathlib.Core.Path.{_≡_, refl, sym, ap, ap₂, subst, _∙_}
-use mathlib.Core.Bool.{Bool, true, false, cond, _||_}
-use mathlib.Core.List.{List, [], _∷_, _++_}
+use Prim.Native.Nat.{ℕ, suc, _+_, _-_, _*_, _/_, _<_, _≤_}
+use mathlib.Core.Path.{_≡_, sym, ap, ap₂, subst, _∙_}
+use mathlib.Core.Bool.{Bool, false, cond}
+use mathlib.Core.List.{List, _∷_, _++_}
 use native.Mathlib.Omega.{arith}
-use lib.Dec.{leb, ltb, eqb}
-use lib.ListN.{length, getD, take, drop}
+use lib.ListN.{length, take, drop}
 use Rattle.std.specs.declared.result.Result.{Result}
-use Rattle.std.specs.declared.result.Result.the-variants.{Ok, Err}
+use Rattle.std.specs.declared.result.Result.the-variants.{Ok}
 use Rattle.std.proofs.shelf.Ways.{tells}
 use Rattle.schedule.specs.Faults.{judged}
 use Rattle.schedule.specs.Ranges.{Ranges}
 use Rattle.schedule.proofs.Judged.{judged-clear, judged-then}
 use Rattle.writer.specs.Passes.{pair-number, pair-of, second-pass-back}
 use Rattle.reader.specs.Back.{carrier-rows, pair-rows}
-use Rattle.reader.proofs.Tests.{is-leb, not-leb, not-eqb}
+use Rattle.reader.proofs.Tests.{is-leb, not-leb}
 use Rattle.access.specs.Lookup.{start, part, earlier, later, pair-in, no-place, groups-rows, part-symbol, part-rows, pair-symbol, pair-place-rows, lead-symbol, lead-place-rows, lookup-rows, symbol}
 
 -- The second pass taken back gave these two.

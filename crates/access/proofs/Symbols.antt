@@ -1,18 +1,18 @@
 -- The symbols of a recording, by their places.
-use Prim.Native.Nat.{ℕ, zero, suc, _+_, _-_, _*_, _/_, _%_, _<_, _≤_}
+use Prim.Native.Nat.{ℕ, zero, suc, _+_, _-_, _<_, _≤_}
 use mathlib.Core.Path.{_≡_, refl, sym, ap, subst, _∙_}
-use mathlib.Core.Logic.{_⊎_, inl, inr, ⊎-elim}
+use mathlib.Core.Logic.{_⊎_, ⊎-elim}
 use mathlib.Core.Bool.{Bool, true, false, not, _&&_}
-use mathlib.Core.List.{List, [], _∷_, _++_}
+use mathlib.Core.List.{List, [], _∷_}
 use native.Mathlib.Omega.{arith}
 use lib.Dec.{eqb}
-use lib.ListN.{length, getD, take, drop}
+use lib.ListN.{length, getD}
 use Rattle.std.specs.shelf.Lists.{All}
 use Rattle.std.proofs.shelf.Lists.{length-append, getD-append-left, getD-append-right, getD-take}
 use Rattle.schedule.specs.Ranges.{Ranges, Lawful, alphabet, end-mark}
 use Rattle.schedule.proofs.Sizes.{split}
 use Rattle.writer.specs.Stream.{Valid, marks, symbols}
-use Rattle.writer.proofs.Closing.{Marked, marked}
+use Rattle.writer.proofs.Closing.{marked}
 use Rattle.reader.proofs.Tests.{is-eqb, not-eqb}
 
 two-same : (m i : ℕ) → i < 2 → getD (m ∷ m ∷ []) i 0 ≡ m

@@ -2,9 +2,7 @@
 ghost use mathlib.Core.Path.{_≡_};
 ghost use mathlib.Core.List.{_++_};
 ghost use Prim.Native.Nat.{ℕ, _+_, _-_, _*_, _/_, _%_, _^_, _<_, _≤_};
-ghost use lib.Dec.{leb};
-ghost use lib.ListN.{length, getD, take, drop};
-ghost use Rattle.std.specs.shelf.Lists.{All};
+ghost use lib.ListN.{length, getD};
 ghost use Rattle.std.specs.Vec.{made};
 ghost use Rattle.schedule.specs.Faults.{says, judged};
 ghost use Rattle.writer.specs.Passes.{pair-of, second-pass-back};

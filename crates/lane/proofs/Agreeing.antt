@@ -1,5 +1,4 @@
 -- All the laws over runs.
-use mathlib.Core.Path.{refl}
 use Rattle.schedule.specs.Ranges.{Ranges, Lawful}
 use Rattle.writer.proofs.Recorded.{distinct-beginnings}
 use Rattle.writer.proofs.Running.{every-list-records, valid-is-accepted}

@@ -2,21 +2,20 @@
 use Prim.Native.Nat.{ℕ}
 use mathlib.Core.Path.{_≡_, refl, sym, ap, ap₂, subst, _∙_}
 use mathlib.Core.Bool.{Bool, true, false}
-use mathlib.Core.List.{List, [], _∷_, _++_, map, append-assoc}
+use mathlib.Core.List.{List, [], _∷_, _++_, map}
 use native.Mathlib.Omega.{arith}
 use Rattle.std.specs.declared.result.Result.{Result}
 use Rattle.std.specs.declared.result.Result.the-variants.{Ok, Err}
 use Rattle.std.specs.shelf.Lists.{All}
 use Rattle.schedule.specs.declared.fault.Fault.{Fault}
 use Rattle.schedule.specs.Ranges.{Ranges, Lawful}
-use Rattle.schedule.specs.Faults.{number-place, says, judged}
 use Rattle.writer.specs.Stream.{Valid, stream}
 use Rattle.writer.specs.Runs.{Call, Recorded, accepted, wrote}
 use Rattle.writer.proofs.Recorded.{writes-streams}
 use Rattle.reader.specs.declared.reading.Brought.{Brought}
 use Rattle.reader.specs.declared.reading.Reading.{Reading}
 use Rattle.reader.specs.Reading.{brought, completes, started}
-use Rattle.reader.specs.Calls.{says-brought, after-whole, take-rows, take-brings, Takes, Stops}
+use Rattle.reader.specs.Calls.{says-brought, after-whole, Takes}
 use Rattle.lane.specs.Reads.{Reply, Request, request, Reads, Accepted, handed}
 use Rattle.lane.specs.Reads.Reply.{took, stopped}
 use Rattle.lane.specs.Reads.Request.{take-it, stop-it}

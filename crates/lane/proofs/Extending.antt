@@ -1,12 +1,12 @@
 -- What one more pair of symbols makes of what is written, and how a stream ends.
-use Prim.Native.Nat.{ℕ, zero, suc, _+_, _-_, _*_, _/_, _%_, _<_, _≤_}
+use Prim.Native.Nat.{ℕ, zero, suc, _+_, _-_, _*_, _%_, _≤_}
 use mathlib.Core.Path.{_≡_, refl, sym, ap, subst, _∙_}
 use mathlib.Core.List.{List, [], _∷_, _++_, append-assoc, append-nil}
 use native.Mathlib.Omega.{arith}
 use lib.ListN.{length, drop}
 use Rattle.std.proofs.shelf.Lists.{length-append, length-drop, drop-append-le}
-use Rattle.schedule.specs.Ranges.{Ranges, Lawful, end-mark}
-use Rattle.writer.specs.Stream.{marks, symbols, first-spill, first-pass, group, groups, complete, stream}
+use Rattle.schedule.specs.Ranges.{Ranges, end-mark}
+use Rattle.writer.specs.Stream.{symbols, first-spill, first-pass, group, groups, complete, stream}
 use Rattle.writer.specs.Holding.{last-spill, spill-left}
 use Rattle.writer.proofs.Growing.{same-first}
 use Rattle.writer.proofs.Closing.{stream-is}

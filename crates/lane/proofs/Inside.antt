@@ -1,30 +1,26 @@
 -- A reader inside a stream: what it has accepted since the last end are the groups of what it has brought since.
 use Prim.Native.Nat.{ℕ, zero, suc, _+_, _-_, _*_, _/_, _%_, _<_, _≤_, zero-le}
 use mathlib.Core.Path.{_≡_, refl, sym, ap, ap₂, subst, _∙_}
-use mathlib.Core.Logic.{_⊎_, inl, inr, ⊎-elim}
 use mathlib.Core.Bool.{Bool, true, false, cond, not, _&&_, _||_}
-use mathlib.Core.List.{List, [], _∷_, _++_, append-assoc, append-nil}
+use mathlib.Core.List.{List, [], _∷_, _++_, append-nil}
 use native.Mathlib.Omega.{arith}
-use native.Mathlib.Nat.{div-add-mod', mod-lt, div-lt-iff-lt-mul, mul-comm}
+use native.Mathlib.Nat.{div-add-mod', mod-lt, div-lt-iff-lt-mul}
 use lib.Arith.{digits-div, digits-mod}
-use lib.Dec.{leb, eqb}
+use lib.Dec.{eqb}
 use lib.ListN.{length, drop}
 use Rattle.std.specs.shelf.Lists.{All}
 use Rattle.std.proofs.shelf.Lists.{length-append}
 use Rattle.std.proofs.shelf.Elements.{all-append}
-use Rattle.std.proofs.shelf.Ways.{tells, eqb-tells}
-use Rattle.schedule.specs.Ranges.{Ranges, Lawful, alphabet, end-mark, longest}
-use Rattle.schedule.proofs.Judged.{Clear}
+use Rattle.std.proofs.shelf.Ways.{tells}
+use Rattle.schedule.specs.Ranges.{Ranges, Lawful, alphabet, end-mark}
 use Rattle.schedule.proofs.Sizes.{spill-range}
 use Rattle.writer.specs.Stream.{Valid, symbols, first-spill, first-pass, in-blocks, group, groups, closed, complete, stream}
 use Rattle.writer.specs.Holding.{last-spill, spill-left}
-use Rattle.writer.specs.Passes.{pair-number, pair-of, second-pass-back}
-use Rattle.writer.proofs.Opening.{drop-nil}
+use Rattle.writer.specs.Passes.{pair-number, pair-of}
 use Rattle.writer.proofs.Recorded.{none-written}
-use Rattle.writer.proofs.Closing.{stream-is}
 use Rattle.reader.specs.declared.reading.Half.{Half}
 use Rattle.reader.specs.declared.reading.Half.the-variants.{First, Second}
-use Rattle.reader.specs.Reading.{pair-before, found, lead-symbol, hands-over, marked, pair-rows-before, Before-below}
+use Rattle.reader.specs.Reading.{pair-before, lead-symbol, hands-over, marked}
 use Rattle.reader.proofs.Taking.{Shown}
 use Rattle.lane.proofs.Extending.{complete-pair, spill-pair, stream-pair, symbols-even, symbols-odd}
 

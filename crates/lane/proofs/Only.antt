@@ -1,11 +1,11 @@
 -- A reader accepts streams, and nothing else.
-use Prim.Native.Nat.{ℕ, zero, suc, _+_, _-_, _*_, _/_, _%_, _<_, _≤_}
+use Prim.Native.Nat.{ℕ, zero, suc, _+_, _-_, _*_, _/_, _<_, _≤_}
 use mathlib.Core.Path.{_≡_, refl, sym, ap, ap₂, subst, _∙_}
 use mathlib.Core.Bool.{Bool, true, false}
 use mathlib.Core.List.{List, [], _∷_, _++_, map, append-assoc, append-nil}
 use native.Mathlib.Omega.{arith}
 use lib.Arith.{digits-div, digits-mod}
-use lib.Dec.{leb, ltb}
+use lib.Dec.{ltb}
 use lib.ListN.{length}
 use Rattle.std.specs.declared.option.Option.{Option}
 use Rattle.std.specs.declared.option.Option.the-variants.{Some, None}
@@ -16,22 +16,21 @@ use Rattle.std.proofs.shelf.Lists.{length-append}
 use Rattle.std.proofs.shelf.Ways.{tells}
 use Rattle.schedule.specs.Ranges.{Ranges, Lawful}
 use Rattle.schedule.specs.Faults.{judged}
-use Rattle.schedule.proofs.Judged.{Clear, judged-clear, clear-judged}
+use Rattle.schedule.proofs.Judged.{judged-clear, clear-judged}
 use Rattle.writer.specs.Stream.{Valid, in-blocks, stream}
-use Rattle.writer.specs.Passes.{second-pass-back}
 use Rattle.writer.proofs.Shape.{two-blocks, stream-shape}
 use Rattle.writer.proofs.Unique.{stream-unique}
 use Rattle.reader.specs.declared.reading.Brought.{Brought}
 use Rattle.reader.specs.declared.reading.Half.{Half}
 use Rattle.reader.specs.declared.reading.Half.the-variants.{First, Second}
 use Rattle.reader.specs.declared.reading.Reading.{Reading}
-use Rattle.reader.specs.Reading.{brought, completes, step-of, before-of, found, hands-over, group-rows, started, In-range}
-use Rattle.reader.specs.Calls.{whole-rows, whole-brings, after-group, after-whole, take-rows, take-brings, Takes, Stops}
+use Rattle.reader.specs.Reading.{brought, completes, step-of, before-of, started, In-range}
+use Rattle.reader.specs.Calls.{whole-rows, whole-brings, after-group, after-whole, take-rows, take-brings, Takes}
 use Rattle.reader.proofs.Taking.{Shown, shown, started-in-range}
 use Rattle.lane.specs.Reads.{Reply, Reads, Stopped-at-last, taken, handed}
 use Rattle.lane.specs.Reads.Reply.{took, stopped}
-use Rattle.lane.specs.Laws.{joined, Only-streams, Reads-only-streams}
-use Rattle.lane.proofs.Inside.{Known, Inside, Moves, first-moves, group-moves}
+use Rattle.lane.specs.Laws.{joined, Reads-only-streams}
+use Rattle.lane.proofs.Inside.{Inside, Moves, first-moves, group-moves}
 
 -- An accepted block, by the group that it completes or not.
 record Completed (R : Ranges) (g : Reading) (w : ℕ) (x : Brought) (g′ : Reading) : Type 0 where

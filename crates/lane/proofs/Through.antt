@@ -1,36 +1,33 @@
 -- A reader takes a whole stream, and hands its recording over.
-use Prim.Native.Nat.{ℕ, zero, suc, _+_, _-_, _*_, _/_, _%_, _<_, _≤_, zero-le}
+use Prim.Native.Nat.{ℕ, zero, suc, _+_, _-_, _*_, _/_, _%_, _<_, _≤_}
 use mathlib.Core.Path.{_≡_, refl, sym, ap, ap₂, subst, _∙_}
-use mathlib.Core.Logic.{_⊎_, inl, inr, ⊎-elim}
-use mathlib.Core.Bool.{Bool, true, false, cond, not, _&&_, _||_}
-use mathlib.Core.List.{List, [], _∷_, _++_, map, append-assoc, append-nil}
+use mathlib.Core.Logic.{_⊎_, ⊎-elim}
+use mathlib.Core.Bool.{Bool, true, false, not, _&&_, _||_}
+use mathlib.Core.List.{List, [], _∷_, _++_, append-assoc, append-nil}
 use native.Mathlib.Omega.{arith}
 use native.Mathlib.Nat.{div-add-mod', mod-lt}
-use lib.Dec.{leb, ltb, eqb}
+use lib.Dec.{leb, eqb}
 use lib.ListN.{length, drop}
 use Rattle.std.specs.declared.option.Option.{Option}
 use Rattle.std.specs.declared.option.Option.the-variants.{Some, None}
-use Rattle.std.specs.declared.result.Result.{Result}
-use Rattle.std.specs.declared.result.Result.the-variants.{Ok, Err}
+use Rattle.std.specs.declared.result.Result.the-variants.{Ok}
 use Rattle.std.specs.shelf.Lists.{All}
-use Rattle.std.proofs.shelf.Ways.{tells}
 use Rattle.schedule.specs.Ranges.{Ranges, Lawful, alphabet, end-mark}
 use Rattle.schedule.specs.Faults.{judged}
-use Rattle.schedule.proofs.Judged.{Clear, clear-judged}
-use Rattle.schedule.proofs.Sizes.{split, spill-range}
-use Rattle.writer.specs.Stream.{Valid, marks, symbols, first-spill, first-pass, in-blocks, group, closed, stream}
+use Rattle.schedule.proofs.Judged.{clear-judged}
+use Rattle.schedule.proofs.Sizes.{split}
+use Rattle.writer.specs.Stream.{Valid, marks, symbols, first-spill, first-pass, in-blocks, closed, stream}
 use Rattle.writer.specs.Passes.{pair-number, pair-of, second-pass-back}
 use Rattle.writer.proofs.Inverse.{passes-taken-back, number-back, pair-below, spill-below}
 use Rattle.writer.proofs.Shape.{two-blocks, group-below, closing-below}
 use Rattle.writer.proofs.Unique.{Ended, first-mark, tail-ended, tail-fits}
-use Rattle.writer.proofs.Closing.{Marked, marked as marked-as}
-use Rattle.reader.specs.declared.reading.Half.{Half}
+use Rattle.writer.proofs.Closing.{marked as marked-as}
 use Rattle.reader.specs.declared.reading.Half.the-variants.{First, Second}
 use Rattle.reader.specs.declared.reading.Reading.{Reading}
 use Rattle.reader.specs.Back.{limit}
-use Rattle.reader.specs.Reading.{completes, pair-before, found, lead-symbol, until-mark, marked, hands-over, pair-rows-before, closing-rows, group-rows, started}
+use Rattle.reader.specs.Reading.{completes, pair-before, found, lead-symbol, until-mark, hands-over, group-rows, started}
 use Rattle.reader.specs.Calls.{whole-rows, whole-brings, after-whole, take-rows, take-brings}
-use Rattle.reader.proofs.Tests.{is-leb, not-leb, is-eqb, not-eqb}
+use Rattle.reader.proofs.Tests.{not-leb, is-eqb, not-eqb}
 
 -- Taking these blocks one after another is accepted, brings the rest of the recording xs, and ends with the last block.
 abbrev pub Accepts : Ranges → Reading → List ℕ → List ℕ → List ℕ → Type 0

@@ -1,26 +1,23 @@
 -- What an accepted group says of its numbers; and the promise of a take that completes a group.
-use Prim.Native.Nat.{ℕ, zero, suc, _+_, _-_, _*_, _/_, _%_, _<_, _≤_, zero-le}
+use Prim.Native.Nat.{ℕ, suc, _+_, _-_, _*_, _/_, _<_, zero-le}
 use mathlib.Core.Path.{_≡_, refl, sym, ap, subst, _∙_}
-use mathlib.Core.Logic.{_⊎_, inl, inr, ⊎-elim}
-use mathlib.Core.Bool.{Bool, true, false, cond, not, _&&_, _||_}
+use mathlib.Core.Bool.{Bool, true, false, not, _&&_}
 use mathlib.Core.List.{List, [], _∷_, _++_}
 use native.Mathlib.Omega.{arith}
-use lib.Dec.{leb, eqb}
+use lib.Dec.{eqb}
 use Rattle.std.specs.declared.result.Result.{Result}
 use Rattle.std.specs.declared.result.Result.the-variants.{Ok, Err}
 use Rattle.std.specs.Results.{Cases}
 use Rattle.std.proofs.shelf.Ways.{tells}
 use Rattle.schedule.specs.declared.fault.Fault.{Fault}
 use Rattle.schedule.specs.Faults.{judged}
-use Rattle.schedule.specs.Ranges.{Ranges, Lawful, alphabet, end-mark}
+use Rattle.schedule.specs.Ranges.{Ranges, Lawful, end-mark}
 use Rattle.schedule.proofs.Judged.{Clear, judged-clear}
-use Rattle.writer.specs.Passes.{pair-of, second-pass-back}
 use Rattle.reader.specs.declared.reading.Brought.{Brought}
-use Rattle.reader.specs.declared.reading.Half.{Half}
-use Rattle.reader.specs.declared.reading.Half.the-variants.{First, Second}
+use Rattle.reader.specs.declared.reading.Half.the-variants.{Second}
 use Rattle.reader.specs.declared.reading.Reading.{Reading}
-use Rattle.reader.specs.Back.{limit, carrier-rows, pair-rows}
-use Rattle.reader.specs.Reading.{brought, completes, step-of, pair-before, found, marked, hands-over, pair-rows-before, closing-rows, group-rows, started, In-range}
+use Rattle.reader.specs.Back.{limit, carrier-rows}
+use Rattle.reader.specs.Reading.{brought, step-of, found, marked, hands-over, pair-rows-before, group-rows, started, In-range}
 use Rattle.reader.specs.Calls.{says-brought, after-group, Takes}
 use Rattle.reader.proofs.Tests.{not-leb, group-there}
 

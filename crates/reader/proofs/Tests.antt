@@ -1,11 +1,11 @@
 -- What tests say of numbers, and which groups there are.
-use Prim.Native.Nat.{ℕ, _*_, _<_, _≤_}
-use mathlib.Core.Path.{_≡_, refl, sym, _∙_}
-use mathlib.Core.Logic.{_⊎_, inl, inr, ⊎-elim}
-use mathlib.Core.Bool.{Bool, true, false, cond, not, _&&_}
+use Prim.Native.Nat.{ℕ, _<_, _≤_}
+use mathlib.Core.Path.{_≡_}
+use mathlib.Core.Logic.{_⊎_, ⊎-elim}
+use mathlib.Core.Bool.{true, false}
 use native.Mathlib.Omega.{arith}
-use lib.Dec.{leb, ltb, eqb}
-use Rattle.std.proofs.shelf.Ways.{tells, leb-tells, eqb-tells}
+use lib.Dec.{leb, eqb}
+use Rattle.std.proofs.shelf.Ways.{tells}
 use Rattle.schedule.specs.Ranges.{Ranges, Lawful}
 use Rattle.schedule.proofs.Sizes.{split}
 use Rattle.reader.specs.Back.{limit}

@@ -1,8 +1,6 @@
 // The passes taken back, over any schedule. `place` is the place of a refusal.
 ghost use mathlib.Core.Path.{_≡_};
-ghost use Prim.Native.Nat.{_≤_};
 ghost use Rattle.schedule.specs.Faults.{says, judged};
-ghost use Rattle.std.specs.Vec.{made};
 ghost use Rattle.writer.specs.Passes.{pair-number, pair-of, second-pass-back};
 ghost use Rattle.reader.specs.Back.{limit, carrier-rows, pair-rows};
 use schedule::fault::Fault;

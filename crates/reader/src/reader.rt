@@ -1,15 +1,11 @@
 // A reader of streams: takes one block at a time, and is stopped between streams.
 ghost use mathlib.Core.Path.{_≡_};
-ghost use mathlib.Core.List.{[], _∷_, _++_};
-ghost use mathlib.Core.Bool.{Bool};
-ghost use Prim.Native.Nat.{ℕ, suc, _+_, _^_, _<_, _≤_};
+ghost use Prim.Native.Nat.{ℕ, _+_, _<_};
 ghost use Rattle.std.specs.declared.result.Result.the-variants.{Ok, Err};
 ghost use Rattle.std.specs.Results.{Cases};
-ghost use Rattle.std.specs.Vec.{made};
 ghost use Rattle.schedule.specs.Faults.{says, judged};
-ghost use Rattle.schedule.specs.Ranges.{end-mark};
-ghost use Rattle.writer.specs.Passes.{pair-number, pair-of, second-pass-back};
-ghost use Rattle.reader.specs.Reading.{Small, In-range, started, step-of, before-of, brought, found, hands-over, marked, pair-rows-before, closing-rows, group-rows};
+ghost use Rattle.writer.specs.Passes.{second-pass-back};
+ghost use Rattle.reader.specs.Reading.{Small, In-range, started, step-of, before-of, brought, found, hands-over, pair-rows-before, closing-rows, group-rows};
 ghost use Rattle.reader.specs.Calls.{says-brought, after-group, Takes, Stops};
 use crate::back::first_pass_back;
 use crate::back::second_pass_back;

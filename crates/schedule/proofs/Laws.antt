@@ -1,14 +1,14 @@
--- SOLE and LOSE keep the laws at every width, and one step more would not.
-use Prim.Native.Nat.{ℕ, suc, _+_, _-_, _*_, _^_, _<_, _≤_}
-use mathlib.Core.Path.{_≡_, refl, sym, subst}
+-- SOLE and LOSE keep the laws at every width.
+use Prim.Native.Nat.{ℕ, suc, _+_, _-_, _*_, _≤_}
+use mathlib.Core.Path.{_≡_, sym, subst}
 use mathlib.Core.Logic.{_⊎_, inl, inr}
 use mathlib.Core.Bool.{true}
-use lib.Dec.{lit<, lit≤}
+use lib.Dec.{lit≤}
 use native.Mathlib.Nat.{mul-le-mul}
 use native.Mathlib.Omega.{arith}
 use Rattle.std.proofs.shelf.Ways.{tells}
-use Rattle.schedule.specs.Ranges.{Ranges, Lawful, alphabet}
-use Rattle.schedule.specs.Kinds.{known, fourfold, sole, lose, No-further-step}
+use Rattle.schedule.specs.Ranges.{Lawful}
+use Rattle.schedule.specs.Kinds.{known, fourfold, sole, lose}
 
 group-sum : (c u : ℕ) → c * (c + u + u) ≤ (c + u) * (c + u)
 group-sum c u = omega arith
@@ -88,9 +88,3 @@ lose-lawful w h =
     (fourfold-lawful 256 1 5 (lit≤ tt) (lit≤ tt) (lit≤ tt) (lit≤ tt) (lit≤ tt) (lit≤ tt) (lit≤ tt))
     (fourfold-lawful 65536 1 90 (lit≤ tt) (lit≤ tt) (lit≤ tt) (lit≤ tt) (lit≤ tt) (lit≤ tt) (lit≤ tt))
     (fourfold-lawful 16777216 1 1448 (lit≤ tt) (lit≤ tt) (lit≤ tt) (lit≤ tt) (lit≤ tt) (lit≤ tt) (lit≤ tt))
-
-pub sole-full : (w : ℕ) → known w ≡ true → No-further-step (sole w)
-sole-full w h = at-known (λ n. No-further-step (sole n)) w h (lit< tt) (lit< tt) (lit< tt) (lit< tt)
-
-pub lose-full : (w : ℕ) → known w ≡ true → No-further-step (lose w)
-lose-full w h = at-known (λ n. No-further-step (lose n)) w h (lit< tt) (lit< tt) (lit< tt) (lit< tt)

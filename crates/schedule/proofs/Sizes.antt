@@ -1,9 +1,9 @@
 -- What the laws say of the size of each range, whatever the step.
-use Prim.Native.Nat.{ℕ, zero, suc, _+_, _*_, _<_, _≤_}
-use mathlib.Core.Path.{_≡_, refl, subst}
+use Prim.Native.Nat.{ℕ, zero, suc, _*_, _<_, _≤_}
+use mathlib.Core.Path.{_≡_}
 use mathlib.Core.Logic.{_⊎_, inl, inr}
 use native.Mathlib.Omega.{arith}
-use Rattle.schedule.specs.Ranges.{Ranges, Lawful, alphabet}
+use Rattle.schedule.specs.Ranges.{Ranges, Lawful}
 
 pub split : (m n : ℕ) → (m < n) ⊎ (n ≤ m)
 split m n = grind arith

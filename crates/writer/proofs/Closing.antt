@@ -1,14 +1,13 @@
 -- The end marks and the closing group.
-use Prim.Native.Nat.{ℕ, zero, suc, _+_, _-_, _*_, _/_, _%_, _<_, _≤_}
-use mathlib.Core.Path.{_≡_, refl, sym, ap, subst, _∙_}
+use Prim.Native.Nat.{ℕ, zero, suc, _+_, _-_, _/_, _%_, _≤_}
+use mathlib.Core.Path.{_≡_, refl, sym, ap, _∙_}
 use mathlib.Core.List.{List, [], _∷_, _++_, append-assoc}
 use native.Mathlib.Omega.{arith}
-use native.Mathlib.Nat.{zero-add}
 use lib.ListN.{length, take, drop}
 use Rattle.std.proofs.shelf.Lists.{length-drop}
 use Rattle.schedule.specs.Ranges.{Ranges, Lawful, end-mark}
 use Rattle.writer.specs.Stream.{marks, symbols, first-spill, first-pass, in-blocks, group, groups, closed, complete, stream}
-use Rattle.writer.specs.Holding.{last-spill, Holds, Grows}
+use Rattle.writer.specs.Holding.{last-spill, Grows}
 use Rattle.writer.specs.Calls.{offer-writes, close-writes}
 use Rattle.writer.proofs.Numbers.{group-length}
 use Rattle.writer.specs.declared.held.Held.{Held}

@@ -1,12 +1,12 @@
 -- Each pass, taken back, gives what went in; and the ranges of what a pass makes.
-use Prim.Native.Nat.{ℕ, zero, suc, _+_, _*_, _/_, _%_, _<_, _≤_}
-use mathlib.Core.Path.{_≡_, refl, sym, ap, ap₂, _∙_}
+use Prim.Native.Nat.{ℕ, suc, _+_, _*_, _<_}
+use mathlib.Core.Path.{_≡_, ap, ap₂, _∙_}
 use native.Mathlib.Nat.{div-add-mod', div-lt-iff-lt-mul, mul-comm}
 use native.Mathlib.Omega.{arith}
 use lib.Arith.{digits-div, digits-mod, digits-lt}
 use Rattle.schedule.specs.Ranges.{Ranges, Lawful, alphabet}
 use Rattle.writer.specs.Stream.{first-pass}
-use Rattle.writer.specs.Passes.{pair-number, pair-of, second-pass-back, Passes-taken-back}
+use Rattle.writer.specs.Passes.{pair-number, pair-of, Passes-taken-back}
 
 -- A pair's number comes back from its carrier and its spill, whatever the range.
 pub number-back : (R : Ranges) (j s t : ℕ) → pair-number R j (first-pass R j s t .0) (first-pass R j s t .1) ≡ t * alphabet R + s

@@ -9,7 +9,7 @@ use Rattle.std.proofs.shelf.Lists.{length-append}
 use Rattle.schedule.specs.Ranges.{Ranges, Lawful}
 use Rattle.schedule.proofs.Sizes.{split}
 use Rattle.writer.specs.declared.held.Held.{Held}
-use Rattle.writer.specs.Stream.{marks, symbols, first-pass, group, complete, stream}
+use Rattle.writer.specs.Stream.{marks, first-pass, group, complete, stream}
 use Rattle.writer.specs.Holding.{Holds, Open, Grows}
 use Rattle.writer.specs.Calls.{offer-writes, close-writes}
 use Rattle.writer.proofs.Growing.{held-waits, held-joins, grows-on, grows-none}

@@ -1,17 +1,17 @@
 -- A run on a new recording writes the stream of the blocks that it accepted.
 use Prim.Native.Nat.{ℕ}
-use mathlib.Core.Path.{_≡_, refl, sym, ap, ap₂, subst, _∙_}
-use mathlib.Core.Logic.{_⊎_, inl, inr}
+use mathlib.Core.Path.{_≡_, sym, ap, subst, _∙_}
+use mathlib.Core.Logic.{inl, inr}
 use mathlib.Core.List.{List, [], _∷_, _++_, append-assoc, append-nil}
-use lib.ListN.{length, take, drop}
+use lib.ListN.{take}
 use Rattle.std.specs.declared.result.Result.the-variants.{Ok, Err}
 use Rattle.schedule.specs.Ranges.{Ranges, Lawful}
 use Rattle.writer.specs.declared.held.Held.{Held}
 use Rattle.writer.specs.Stream.{Valid, first-spill, groups, complete, stream}
 use Rattle.writer.specs.Holding.{Open, opened}
-use Rattle.writer.specs.Runs.{Call, Records, Closed-at-last, Recorded, accepted, wrote}
+use Rattle.writer.specs.Runs.{Call, Records, Closed-at-last, accepted, wrote}
 use Rattle.writer.specs.Runs.Call.{offer, close}
-use Rattle.writer.specs.Laws.{Begins, Writes-streams, Distinct-beginnings}
+use Rattle.writer.specs.Laws.{Writes-streams, Distinct-beginnings}
 use Rattle.writer.proofs.Opening.{drop-nil, opened-open}
 use Rattle.writer.proofs.Unique.{stream-unique}
 

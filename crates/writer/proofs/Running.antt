@@ -2,7 +2,7 @@
 use Prim.Native.Nat.{ℕ, suc, _<_, _≤_}
 use mathlib.Core.Path.{_≡_, refl, sym, ap, ap₂, subst, _∙_}
 use mathlib.Core.Logic.{_⊎_, inl, inr, ⊎-elim}
-use mathlib.Core.Bool.{Bool, true, false}
+use mathlib.Core.Bool.{false}
 use mathlib.Core.List.{List, [], _∷_, _++_, map, append-nil}
 use native.Mathlib.Omega.{arith}
 use lib.Dec.{ltb}
@@ -25,7 +25,7 @@ use Rattle.writer.specs.Holding.{Holds, Open, opened}
 use Rattle.writer.specs.Calls.{front-below, offer-writes, close-writes, offer-rows, close-rows, Written, After-offer, After-close, Offers, Closes}
 use Rattle.writer.specs.Runs.{Call, Records, Closed-at-last}
 use Rattle.writer.specs.Runs.Call.{offer, close}
-use Rattle.writer.specs.Lists.{Ask, asked, Answers, Every-list-records, Valid-is-accepted}
+use Rattle.writer.specs.Lists.{Ask, asked, Every-list-records, Valid-is-accepted}
 use Rattle.writer.specs.Lists.Ask.{ask-offer, ask-close}
 use Rattle.writer.proofs.Rows.{Fine, fine}
 use Rattle.writer.proofs.Opening.{open-from, opened-open, valid-append}

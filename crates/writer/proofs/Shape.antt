@@ -3,7 +3,7 @@ use Prim.Native.Nat.{ℕ, zero, suc, _+_, _-_, _*_, _/_, _%_, _<_, _≤_}
 use mathlib.Core.Path.{_≡_, refl, sym, ap, subst, _∙_}
 use mathlib.Core.Logic.{_⊎_, inl, inr, ⊎-elim}
 use mathlib.Core.List.{List, [], _∷_, _++_}
-use native.Mathlib.Nat.{mod-lt, div-lt-iff-lt-mul, mul-comm, mul-le-mul-right, mul-one}
+use native.Mathlib.Nat.{mod-lt, div-lt-iff-lt-mul, mul-le-mul-right}
 use native.Mathlib.Omega.{arith}
 use lib.Arith.{digits-lt}
 use lib.ListN.{length, getD, drop}
@@ -18,7 +18,7 @@ use Rattle.writer.specs.Laws.{Stream-shape}
 use Rattle.writer.proofs.Numbers.{group-length}
 use Rattle.writer.proofs.Inverse.{spill-below}
 use Rattle.writer.proofs.Opening.{last-spill-below, first-below, blocks-are-symbols}
-use Rattle.writer.proofs.Closing.{Marked, marked, closed-is, stream-is, closing-length}
+use Rattle.writer.proofs.Closing.{marked, stream-is}
 
 groups-length : (R : Ranges) (j y : ℕ) (ss : List ℕ) → length (groups R (suc j) y ss) ≡ 2 * (length ss / 2)
 groups-length R j y [] = refl

@@ -1,6 +1,6 @@
 -- A stream tells its recording, and where it ends.
 use Prim.Native.Nat.{ℕ, zero, suc, _+_, _-_, _*_, _/_, _%_, _<_, _≤_}
-use mathlib.Core.Path.{_≡_, refl, sym, ap, ap₂, subst, _∙_}
+use mathlib.Core.Path.{_≡_, refl, sym, ap, ap₂, _∙_}
 use mathlib.Core.List.{List, [], _∷_, _++_, append-assoc, append-nil, append-cancel-left, head-eq-of-cons-eq, tail-eq-of-cons-eq}
 use native.Mathlib.Nat.{div-add-mod'}
 use native.Mathlib.Omega.{arith}
@@ -11,7 +11,7 @@ use Rattle.schedule.specs.Ranges.{Ranges, Lawful, alphabet, end-mark}
 use Rattle.writer.specs.Stream.{Valid, marks, symbols, first-spill, first-pass, in-blocks, group, closed, stream}
 use Rattle.writer.specs.Passes.{pair-number, pair-of, second-pass-back}
 use Rattle.writer.proofs.Inverse.{passes-taken-back, spill-below}
-use Rattle.writer.proofs.Closing.{Marked, marked}
+use Rattle.writer.proofs.Closing.{marked}
 
 two-blocks-unique : (base w w′ : ℕ) (p q : List ℕ) →
     (w % base) ∷ (w / base) ∷ p ≡ (w′ % base) ∷ (w′ / base) ∷ q → (w ≡ w′) × (p ≡ q)

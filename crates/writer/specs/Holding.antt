@@ -1,5 +1,5 @@
 -- What an open recording holds.
-use Prim.Native.Nat.{ℕ, zero, suc, _+_, _-_, _*_, _/_, _^_, _<_, _≤_}
+use Prim.Native.Nat.{ℕ, suc, _+_, _-_, _*_, _/_, _^_, _<_, _≤_}
 use mathlib.Core.Path.{_≡_}
 use mathlib.Core.List.{List, [], _∷_, _++_}
 use lib.ListN.{length, drop}
@@ -56,7 +56,7 @@ group-blocks Nothing = []
 group-blocks (One w) = w ∷ []
 group-blocks (Two v w) = v ∷ w ∷ []
 
--- One more symbol x: what is held then, and the group that its pair completes.
+-- Some more symbols: what is held then, and the groups whose pairs they complete.
 pub record Grows (R : Ranges) (ss new : List ℕ) (h′ : Held) (written : List ℕ) : Type 0 where
   pub holds : Holds R (ss ++ new) h′
   pub writes : complete R (ss ++ new) ≡ complete R ss ++ written

@@ -1,5 +1,5 @@
 -- The passes taken back.
-use Prim.Native.Nat.{ℕ, _+_, _*_, _/_, _%_, _<_, _≤_}
+use Prim.Native.Nat.{ℕ, _+_, _*_, _/_, _%_, _<_}
 use mathlib.Core.Path.{_≡_}
 use Rattle.schedule.specs.Ranges.{Ranges, alphabet}
 use Rattle.writer.specs.Stream.{first-pass}

@@ -1,7 +1,6 @@
 -- Streams worked at width 5, over the ranges that `Sole` and `Lose` have there.
-use Prim.Native.Nat.{ℕ}
 use mathlib.Core.Path.{_≡_}
-use mathlib.Core.List.{List, [], _∷_}
+use mathlib.Core.List.{[], _∷_}
 use Rattle.schedule.specs.Kinds.{sole, lose}
 use Rattle.writer.specs.Stream.{stream}
 

@@ -5,7 +5,6 @@ ghost use Prim.Native.Nat.{ℕ, _+_, _-_, _*_, _^_, _<_, _≤_};
 ghost use lib.Dec.{ltb};
 ghost use lib.ListN.{length, take, drop};
 ghost use Rattle.std.specs.shelf.Lists.{All};
-ghost use Rattle.std.specs.Results.{Cases};
 ghost use Rattle.schedule.specs.Faults.{says, judged};
 ghost use Rattle.schedule.specs.Ranges.{longest};
 ghost use Rattle.writer.specs.Stream.{marks, complete, stream};

@@ -1,8 +1,6 @@
-use Prim.Native.Nat.{ℕ, _-_, _/_}
-use mathlib.Core.Path.{_≡_}
+use Prim.Native.Nat.{_-_, _/_}
 use native.Mathlib.Omega.{arith}
-use Rattle.schedule.specs.Faults.{says, judged}
-use Rattle.access.specs.Lookup.{lookup-rows, symbol}
+use Rattle.schedule.specs.Faults.{says}
 use Rattle.access.proofs.Placing.{at-lead, at-pair}
 use Rattle.access.proofs.Law.{law-holds}
 use Rattle.access.proofs.lookup.Needs as need

@@ -1,8 +1,6 @@
-use Prim.Native.Nat.{ℕ, _<_}
-use mathlib.Core.Path.{_≡_, sym, ap, subst, _∙_}
-use mathlib.Core.Logic.{_↔_}
-use mathlib.Core.List.{List, [], _∷_, _++_}
-use lib.ListN.{length, getD}
+use Prim.Native.Nat.{_<_}
+use mathlib.Core.Path.{_≡_, sym, subst}
+use lib.ListN.{length}
 use native.Mathlib.Omega.{arith}
 use Rattle.std.proofs.shelf.Lists.{nil-from-length}
 use Rattle.std.proofs.shelf.Ways.{tells}

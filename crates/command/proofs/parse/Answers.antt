@@ -1,6 +1,6 @@
 use Prim.Native.Nat.{_<_}
 use lib.ListN.{length}
-use mathlib.Core.Path.{refl, ap, subst}
+use mathlib.Core.Path.{refl}
 use native.Mathlib.Omega.{arith}
 use Rattle.std.proofs.shelf.Ways.{tells}
 use Rattle.command.proofs.Rests.{first-is, says-some, says-none}

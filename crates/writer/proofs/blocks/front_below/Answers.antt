@@ -1,5 +1,5 @@
 use Prim.Native.Nat.{ℕ, suc, _+_, _<_, _≤_}
-use mathlib.Core.Path.{_≡_, sym, ap, _∙_}
+use mathlib.Core.Path.{_≡_, ap}
 use mathlib.Core.List.{List, _∷_}
 use lib.ListN.{drop, getD}
 use native.Mathlib.Omega.{arith}

@@ -1,5 +1,5 @@
 use Prim.Native.Nat.{_-_, _/_}
-use mathlib.Core.Path.{_≡_, refl, ap, _∙_}
+use mathlib.Core.Path.{refl, ap, _∙_}
 use native.Mathlib.Omega.{arith}
 use lib.ListN.{length}
 use Rattle.writer.proofs.Numbers.{group-length, due-grows}

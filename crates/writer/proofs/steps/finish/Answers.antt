@@ -1,9 +1,9 @@
-use Prim.Native.Nat.{ℕ, _+_, _-_, _/_, _≤_}
-use mathlib.Core.Path.{_≡_, refl, sym, ap, subst, _∙_}
+use Prim.Native.Nat.{ℕ, _+_, _-_, _/_}
+use mathlib.Core.Path.{_≡_, sym, ap, subst, _∙_}
 use mathlib.Core.List.{List, _++_}
 use native.Mathlib.Omega.{arith}
 use lib.ListN.{length, take}
-use Rattle.writer.specs.Stream.{marks, complete, stream}
+use Rattle.writer.specs.Stream.{marks, complete}
 use Rattle.writer.specs.Holding.{Grows, group-blocks}
 use Rattle.writer.proofs.Growing.{behind-later}
 use Rattle.writer.proofs.Closing.{Marked, marked, closing-length, closes}

@@ -1,11 +1,9 @@
-use Prim.Native.Nat.{ℕ, _≤_}
-use mathlib.Core.Path.{_≡_, refl, sym, ap, subst, _∙_}
-use mathlib.Core.List.{List, [], _∷_}
+use Prim.Native.Nat.{_≤_}
+use mathlib.Core.Path.{_∙_}
 use native.Mathlib.Omega.{arith}
-use lib.ListN.{take, getD}
+use lib.ListN.{getD}
 use Rattle.std.proofs.shelf.Lists.{take-more, take-all}
 use Rattle.std.proofs.shelf.Elements.{all-getD}
-use Rattle.writer.specs.Holding.{Grows}
 use Rattle.writer.proofs.Growing.{grows-on, behind-later}
 use Rattle.writer.proofs.steps.run.Needs as need
 
