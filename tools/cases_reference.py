@@ -25,9 +25,9 @@ def longest(kind, width):
     S = Schedule(kind, width)
     blocks = sample(S, S.N)
     out = stream(S, blocks)
-    back = (blocks + [S.B]) * 2
+    back = blocks + [S.B] + blocks[:2] + [S.B] + [S.B] + blocks + [S.B]
     lines.append(f'{kind} {width}: {S.N} blocks, {len(out)} written:{words(out[:3])} ..{words(out[-3:])}, checksum {checksum(out)}; '
-                 f'twice read back: {len(back)}, checksum {checksum(back)}')
+                 f'joined and read back: {len(back)}, checksum {checksum(back)}')
 
 
 def cuts(kind):

@@ -54,7 +54,7 @@ fn print_ends(rt: &LibcRuntime, blocks: &[u64]) -> io::Result<()> {
     Ok(())
 }
 
-// The longest recording of a schedule, written; and its stream, twice over, read back.
+// The longest recording of a schedule, written; and its stream, joined with others, read back.
 fn longest_case<S: Schedule + Copy>(
     rt: &LibcRuntime,
     kind: &str,
@@ -69,12 +69,14 @@ fn longest_case<S: Schedule + Copy>(
     print!(rt, "{kind} {width}: {n} blocks, {count} written:")?;
     print_ends(rt, &stream)?;
     print!(rt, ", checksum {sum}")?;
-    let again = stream.clone()?;
-    stream.extend_from_slice(&again)?;
+    let (two, _) = blocks.split_at(blocks.len().min(2));
+    stream.extend_from_slice(&written(rt, schedule, two)?)?;
+    stream.extend_from_slice(&written(rt, schedule, &[])?)?;
+    stream.extend_from_slice(&written(rt, schedule, &blocks)?)?;
     let back = read_back(rt, schedule, &stream)?;
     let brought = back.len();
     let sum = checksum(&back);
-    println!(rt, "; twice read back: {brought}, checksum {sum}")
+    println!(rt, "; joined and read back: {brought}, checksum {sum}")
 }
 
 // Every way to cut the longest recording at width 5.

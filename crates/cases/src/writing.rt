@@ -39,7 +39,7 @@ pub(crate) fn written<S: Schedule + Drop>(
     let mut stream = Vec::new(rt.alloc());
     let mut buffer = vec![in rt.alloc(); 0u64; blocks.len().saturating_add(4)]?;
     let mut rest = blocks;
-    for size in 0..blocks.len() {
+    for size in 0..blocks.len().saturating_add(1) {
         let (piece, more) = rest.split_at(size.min(rest.len()));
         offer(&mut recording, piece, &mut buffer, &mut stream)?;
         rest = more;
