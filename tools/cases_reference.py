@@ -158,13 +158,17 @@ def packs():
     pack(24, data, 3)
 
 
-def main():
-    for width in (5, 7, 8, 16, 24):
-        if width == 7:
-            lines.append('SOLE: X 1 0')
+def widths(kind, all_widths):
+    for width in all_widths:
+        if width in (5, 8, 16, 24):
+            longest(kind, width)
+            lookups(kind, width)
         else:
-            longest('SOLE', width)
-            lookups('SOLE', width)
+            lines.append(f'{kind}: X 1 0')
+
+
+def main():
+    widths('SOLE', (5, 7, 8, 16, 24))
     cuts('SOLE')
     for blocks in ([1, 2, 1, 32, 0], [0, 2, 1, 0, 2], [0, 16, 31, 1, 2], [0, 12, 30, 0, 0], [0, 1, 0, 2, 1], [0, 6, 2, 2, 1],
                    [0, 0, 0, 0, 0], [0, 0, 0, 8, 1], [12, 3, 26, 6, 1], [12, 32, 40, 99, 3], [12]):
@@ -174,12 +178,7 @@ def main():
         looks('SOLE', blocks)
     offers()
     lines.extend(['text 25 into 8: 7', 'text 26 into 8: X 12 9', 'text 13 into none: 0'])
-    for width in (5, 8, 16, 24, 32):
-        if width == 32:
-            lines.append('LOSE: X 1 0')
-        else:
-            longest('LOSE', width)
-            lookups('LOSE', width)
+    widths('LOSE', (5, 8, 16, 24, 32))
     cuts('LOSE')
     for blocks in ([0, 1, 8, 3, 3, 1], [12, 7, 9, 10, 8, 1], [31, 31, 0, 1, 0, 1], [0, 2, 1, 1, 0, 0], [14, 9, 2, 1, 14, 9]):
         takes('LOSE', blocks)
