@@ -13,8 +13,8 @@ use writer::blocks::front_below;
 // Whether every block of a part is below the base; the part begins at index `first`. Refuses with 20.
 fn check_below<S: Schedule>(schedule: &S, part: &[u64], first: u64) -> Result<(), Fault>
     requires { first + length part.now < 2 ^ 64 }
-    ensures answers { says result ≡ judged (large_rows (ranges schedule.now) first part.now) tt }
-    ensures below { OnOk result ((k : ℕ) → k < length part.now → slice_index part.now k < (ranges schedule.now).base) }
+    ensures answers { says result ≡ judged (large_rows (S.ranges schedule.now) first part.now) tt }
+    ensures below { OnOk result ((k : ℕ) → k < length part.now → slice_index part.now k < (S.ranges schedule.now).base) }
 {
     let front = front_below(schedule.base(), part);
     if front < part.len() {
@@ -26,8 +26,8 @@ fn check_below<S: Schedule>(schedule: &S, part: &[u64], first: u64) -> Result<()
 // The number of the earlier group, of one block or two.
 fn earlier<S: Schedule>(schedule: &S, part: &[u64]) -> u64
     requires size { 3 ≤ length part.now }
-    requires below { (k : ℕ) → k < length part.now → slice_index part.now k < (ranges schedule.now).base }
-    ensures { result ≡ earlier (ranges schedule.now) part.now }
+    requires below { (k : ℕ) → k < length part.now → slice_index part.now k < (S.ranges schedule.now).base }
+    ensures { result ≡ earlier (S.ranges schedule.now) part.now }
 {
     if part.len() == 3 {
         part[0]
@@ -39,8 +39,8 @@ fn earlier<S: Schedule>(schedule: &S, part: &[u64]) -> u64
 // The number of the later group, of two blocks.
 fn later<S: Schedule>(schedule: &S, part: &[u64]) -> u64
     requires size { 2 ≤ length part.now }
-    requires below { (k : ℕ) → k < length part.now → slice_index part.now k < (ranges schedule.now).base }
-    ensures { result ≡ later (ranges schedule.now) part.now }
+    requires below { (k : ℕ) → k < length part.now → slice_index part.now k < (S.ranges schedule.now).base }
+    ensures { result ≡ later (S.ranges schedule.now) part.now }
 {
     part[part.len() - 1] * schedule.base() + part[part.len() - 2]
 }
@@ -48,8 +48,8 @@ fn later<S: Schedule>(schedule: &S, part: &[u64]) -> u64
 // The pair j, from the blocks of groups j and j + 1. Refuses with 21, 22 or 23.
 fn pair_in<S: Schedule>(schedule: &S, j: u64, part: &[u64], first: u64) -> Result<(u64, u64), Fault>
     requires size { (3 ≤ length part.now) × ((length part.now ≤ 4) × ((first < 2 ^ 20) × (j < 2 ^ 20))) }
-    requires below { (k : ℕ) → k < length part.now → slice_index part.now k < (ranges schedule.now).base }
-    ensures { says result ≡ judged (groups_rows (ranges schedule.now) j first part.now) (pair_of (ranges schedule.now) (pair_in (ranges schedule.now) j part.now)) }
+    requires below { (k : ℕ) → k < length part.now → slice_index part.now k < (S.ranges schedule.now).base }
+    ensures { says result ≡ judged (groups_rows (S.ranges schedule.now) j first part.now) (pair_of (S.ranges schedule.now) (pair_in (S.ranges schedule.now) j part.now)) }
 {
     let last = first + part.len() as u64 - 1;
     let (carrier, _) = second_pass_back(schedule, j, earlier(schedule, part), last - 2)?;
@@ -65,7 +65,7 @@ fn pair_checked<S: Schedule>(
     first: u64,
 ) -> Result<(u64, u64), Fault>
     requires { (3 ≤ length part.now) × ((length part.now ≤ 4) × ((first < 2 ^ 20) × (j < 2 ^ 20))) }
-    ensures { says result ≡ judged (large_rows (ranges schedule.now) first part.now ++ groups_rows (ranges schedule.now) j first part.now) (pair_of (ranges schedule.now) (pair_in (ranges schedule.now) j part.now)) }
+    ensures { says result ≡ judged (large_rows (S.ranges schedule.now) first part.now ++ groups_rows (S.ranges schedule.now) j first part.now) (pair_of (S.ranges schedule.now) (pair_in (S.ranges schedule.now) j part.now)) }
 {
     check_below(schedule, part, first)?;
     pair_in(schedule, j, part, first)
@@ -74,7 +74,7 @@ fn pair_checked<S: Schedule>(
 // The spill of group 0, from its two blocks. Refuses with 20 or 21.
 fn lead_checked<S: Schedule>(schedule: &S, part: &[u64]) -> Result<u64, Fault>
     requires { length part.now ≡ 2 }
-    ensures { says result ≡ judged (large_rows (ranges schedule.now) 0 part.now ++ carrier_rows (ranges schedule.now) 1 0 (later (ranges schedule.now) part.now)) (second_pass_back (ranges schedule.now) 0 (later (ranges schedule.now) part.now)).1 }
+    ensures { says result ≡ judged (large_rows (S.ranges schedule.now) 0 part.now ++ carrier_rows (S.ranges schedule.now) 1 0 (later (S.ranges schedule.now) part.now)) (second_pass_back (S.ranges schedule.now) 0 (later (S.ranges schedule.now) part.now)).1 }
 {
     check_below(schedule, part, 0)?;
     let (_, spill) = second_pass_back(schedule, 0, later(schedule, part), 1)?;
@@ -84,14 +84,14 @@ fn lead_checked<S: Schedule>(schedule: &S, part: &[u64]) -> Result<u64, Fault>
 // The index of group j's first block.
 fn start<S: Schedule>(schedule: &S, j: u64) -> u64
     requires { j < 2 ^ 20 }
-    ensures { result ≡ start (ranges schedule.now) j }
+    ensures { result ≡ start (S.ranges schedule.now) j }
 {
     (2 * j + schedule.lead()).saturating_sub(1)
 }
 
 // A symbol at place p, unless it is the end mark.
 fn block_of<S: Schedule>(schedule: &S, p: u64, symbol: u64) -> Result<u64, Fault>
-    ensures { says result ≡ judged (mark_rows (ranges schedule.now) p symbol) symbol }
+    ensures { says result ≡ judged (mark_rows (S.ranges schedule.now) p symbol) symbol }
 {
     if symbol == end_mark(schedule) {
         return Err(Fault::Lookup(LookupFault::NoSuchPlace(p)));
@@ -107,9 +107,9 @@ fn look_part<S: Schedule>(
     part: &[u64],
     first: u64,
 ) -> Result<u64, Fault>
-    requires place { (ranges schedule.now).lead < p }
+    requires place { (S.ranges schedule.now).lead < p }
     requires size { (3 ≤ length part.now) × ((length part.now ≤ 4) × ((first < 2 ^ 20) × (j < 2 ^ 20))) }
-    ensures { says result ≡ judged (part_rows (ranges schedule.now) p j first part.now) (part_symbol (ranges schedule.now) p j part.now) }
+    ensures { says result ≡ judged (part_rows (S.ranges schedule.now) p j first part.now) (part_symbol (S.ranges schedule.now) p j part.now) }
 {
     let (s, t) = pair_checked(schedule, j, part, first)?;
     let even = (p - 1 - schedule.lead()) % 2 == 0;
@@ -118,8 +118,8 @@ fn look_part<S: Schedule>(
 
 // The block at place p, in pair j.
 fn look_pair<S: Schedule>(schedule: &S, stream: &[u64], p: u64, j: u64) -> Result<u64, Fault>
-    requires { ((ranges schedule.now).lead < p) × ((p ≤ (ranges schedule.now).lead + 2 * (ranges schedule.now).steps) × (j < 2 ^ 18)) }
-    ensures { says result ≡ judged (pair_place_rows (ranges schedule.now) stream.now p j) (pair_symbol (ranges schedule.now) stream.now p j) }
+    requires { ((S.ranges schedule.now).lead < p) × ((p ≤ (S.ranges schedule.now).lead + 2 * (S.ranges schedule.now).steps) × (j < 2 ^ 18)) }
+    ensures { says result ≡ judged (pair_place_rows (S.ranges schedule.now) stream.now p j) (pair_symbol (S.ranges schedule.now) stream.now p j) }
 {
     let first = start(schedule, j);
     let end = start(schedule, j + 2);
@@ -131,8 +131,8 @@ fn look_pair<S: Schedule>(schedule: &S, stream: &[u64], p: u64, j: u64) -> Resul
 
 // The block at place 1, in group 0 with lead 1.
 fn look_lead<S: Schedule>(schedule: &S, stream: &[u64], p: u64) -> Result<u64, Fault>
-    requires { (1 ≤ p) × (p ≤ (ranges schedule.now).lead) }
-    ensures { says result ≡ judged (lead_place_rows (ranges schedule.now) stream.now p) (lead_symbol (ranges schedule.now) stream.now) }
+    requires { (1 ≤ p) × (p ≤ (S.ranges schedule.now).lead) }
+    ensures { says result ≡ judged (lead_place_rows (S.ranges schedule.now) stream.now p) (lead_symbol (S.ranges schedule.now) stream.now) }
 {
     if stream.len() < 2 {
         return Err(Fault::Lookup(LookupFault::NoSuchPlace(p)));
@@ -143,8 +143,8 @@ fn look_lead<S: Schedule>(schedule: &S, stream: &[u64], p: u64) -> Result<u64, F
 
 // The block at place p, from 1, of a stream. Refuses with 30, 20, 21, 22 or 23.
 pub fn lookup<S: Schedule>(schedule: &S, stream: &[u64], p: u64) -> Result<u64, Fault>
-    ensures answers { says result ≡ judged (lookup_rows (ranges schedule.now) stream.now p) (symbol (ranges schedule.now) stream.now p) }
-    ensures law { LooksUp (ranges schedule.now) stream.now p result }
+    ensures answers { says result ≡ judged (lookup_rows (S.ranges schedule.now) stream.now p) (symbol (S.ranges schedule.now) stream.now p) }
+    ensures law { LooksUp (S.ranges schedule.now) stream.now p result }
 {
     let lead = schedule.lead();
     if p == 0 || p > lead + 2 * schedule.steps() {

@@ -41,8 +41,8 @@ fn leading_digits(text: &[u8]) -> usize
 
 // The number that these digits write.
 fn value(digits: &[u8]) -> u64
-    requires digits_len_bound { length digits.now ≤ 9 }
-    requires all { All Digit digits.now }
+    requires short { length digits.now ≤ 9 }
+    requires digits { All Digit digits.now }
     ensures { result ≡ value_after 0 digits.now }
 {
     let mut value = 0u64;

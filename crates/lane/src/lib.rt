@@ -14,7 +14,7 @@ use writer::recording::Recording;
 pub fn open_lane<S: Schedule + Copy>(schedule: S) -> (Recording<S>, Reader<S>)
     ensures recording { (result.0.schedule ≡ schedule) × (result.0.held ≡ opened) }
     ensures reader { (result.1.schedule ≡ schedule) × (result.1.reading ≡ started) }
-    ensures agree { StreamsAndRecordingsAgree (ranges schedule) }
+    ensures agree { StreamsAndRecordingsAgree (S.ranges schedule) }
     ensures worked { Worked }
 {
     (Recording::open(schedule), Reader::new(schedule))
@@ -22,8 +22,8 @@ pub fn open_lane<S: Schedule + Copy>(schedule: S) -> (Recording<S>, Reader<S>)
 
 // N, the blocks of the longest recording, and with it the laws over any schedule.
 pub fn longest_recording<S: Schedule>(schedule: &S) -> u64
-    ensures longest { result ≡ longest (ranges schedule.now) }
-    ensures agree { StreamsAndRecordingsAgree (ranges schedule.now) }
+    ensures longest { result ≡ longest (S.ranges schedule.now) }
+    ensures agree { StreamsAndRecordingsAgree (S.ranges schedule.now) }
 {
     longest(schedule)
 }

@@ -9,7 +9,7 @@ use schedule::interface::{Schedule, alphabet, end_mark};
 
 // The limit of the carrier of group j: 0 where there is no such group.
 fn limit<S: Schedule>(schedule: &S, j: u64) -> u64
-    ensures { result ≡ limit (ranges schedule.now) j }
+    ensures { result ≡ limit (S.ranges schedule.now) j }
 {
     if j == schedule.steps() {
         1
@@ -25,7 +25,7 @@ pub fn second_pass_back<S: Schedule>(
     w: u64,
     place: u64,
 ) -> Result<(u64, u64), Fault>
-    ensures { says result ≡ judged (carrier_rows (ranges schedule.now) place j w) (second_pass_back (ranges schedule.now) j w) }
+    ensures { says result ≡ judged (carrier_rows (S.ranges schedule.now) place j w) (second_pass_back (S.ranges schedule.now) j w) }
 {
     let limit = limit(schedule, j);
     if limit > 0 {
@@ -46,7 +46,7 @@ pub fn first_pass_back<S: Schedule>(
     spill: u64,
     place: u64,
 ) -> Result<(u64, u64), Fault>
-    ensures { says result ≡ judged (pair_rows (ranges schedule.now) place (pair_number (ranges schedule.now) j carrier spill)) (pair_of (ranges schedule.now) (pair_number (ranges schedule.now) j carrier spill)) }
+    ensures { says result ≡ judged (pair_rows (S.ranges schedule.now) place (pair_number (S.ranges schedule.now) j carrier spill)) (pair_of (S.ranges schedule.now) (pair_number (S.ranges schedule.now) j carrier spill)) }
 {
     let symbols = alphabet(schedule);
     let mark = end_mark(schedule);

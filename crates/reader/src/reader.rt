@@ -18,7 +18,7 @@ fn known<S: Schedule>(
     spill: u64,
     place: u64,
 ) -> Result<Brought, Fault>
-    ensures { (w : ℕ) → spill ≡ (second_pass_back (ranges schedule.now) j w).1 → says_brought result ≡ judged (pair_rows_before (ranges schedule.now) place j before w) (hands_over (ranges schedule.now) (found (ranges schedule.now) j before w)) }
+    ensures { (w : ℕ) → spill ≡ (second_pass_back (S.ranges schedule.now) j w).1 → says_brought result ≡ judged (pair_rows_before (S.ranges schedule.now) place j before w) (hands_over (S.ranges schedule.now) (found (S.ranges schedule.now) j before w)) }
 {
     let mark = end_mark(schedule);
     if j == 0 {
@@ -58,7 +58,7 @@ fn check_closing<S: Schedule>(
     end: bool,
     place: u64,
 ) -> Result<(), Fault>
-    ensures { says result ≡ judged (closing_rows (ranges schedule.now) place j carrier end) tt }
+    ensures { says result ≡ judged (closing_rows (S.ranges schedule.now) place j carrier end) tt }
 {
     if end {
         if carrier != 0 {
@@ -78,7 +78,7 @@ fn complete<S: Schedule>(
     w: u64,
     place: u64,
 ) -> Result<(u64, Brought), Fault>
-    ensures { MatchResult result (λ p. (Ok (brought p.1) ≡ judged (group_rows (ranges schedule.now) place j before w) (hands_over (ranges schedule.now) (found (ranges schedule.now) j before w))) × (p.0 ≡ (second_pass_back (ranges schedule.now) j w).0)) (λ f. says_brought (Err f) ≡ judged (group_rows (ranges schedule.now) place j before w) (hands_over (ranges schedule.now) (found (ranges schedule.now) j before w))) }
+    ensures { MatchResult result (λ p. (Ok (brought p.1) ≡ judged (group_rows (S.ranges schedule.now) place j before w) (hands_over (S.ranges schedule.now) (found (S.ranges schedule.now) j before w))) × (p.0 ≡ (second_pass_back (S.ranges schedule.now) j w).0)) (λ f. says_brought (Err f) ≡ judged (group_rows (S.ranges schedule.now) place j before w) (hands_over (S.ranges schedule.now) (found (S.ranges schedule.now) j before w))) }
 {
     let (carrier, spill) = second_pass_back(schedule, j, w, place)?;
     let what = known(schedule, j, before, spill, place)?;
@@ -107,7 +107,7 @@ impl<S: Schedule> Reader<S> {
     // A reader at the start of a stream.
     pub fn new(schedule: S) -> Reader<S>
         ensures schedule { result.schedule ≡ schedule }
-        ensures started { (result.reading ≡ started) × InRange (ranges schedule) result.reading }
+        ensures started { (result.reading ≡ started) × InRange (S.ranges schedule) result.reading }
     {
         Reader {
             schedule,
@@ -119,7 +119,7 @@ impl<S: Schedule> Reader<S> {
     // then leaves the reader as it was.
     pub fn take(&mut self, block: u64) -> Result<Brought, Fault>
         ensures schedule { self.new.schedule ≡ self.old.schedule }
-        ensures takes { Takes (ranges self.old.schedule) self.old.reading block result self.new.reading }
+        ensures takes { Takes (S.ranges self.old.schedule) self.old.reading block result self.new.reading }
     {
         let base = self.schedule.base();
         let lead = self.schedule.lead();
@@ -144,8 +144,8 @@ impl<S: Schedule> Reader<S> {
     fn go_on(&mut self, step: u64, before: u64, w: u64) -> Result<Brought, Fault>
         requires { (step ≡ step_of self.old.reading.half) × (before ≡ before_of self.old.reading.half) }
         ensures schedule { self.new.schedule ≡ self.old.schedule }
-        ensures answers { says_brought result ≡ judged (group_rows (ranges self.old.schedule) self.old.reading.count step before w) (hands_over (ranges self.old.schedule) (found (ranges self.old.schedule) step before w)) }
-        ensures leaves { MatchResult result (λ x. self.new.reading ≡ after_group (ranges self.old.schedule) self.old.reading w (brought x).1) (λ _. self.new.reading ≡ self.old.reading) }
+        ensures answers { says_brought result ≡ judged (group_rows (S.ranges self.old.schedule) self.old.reading.count step before w) (hands_over (S.ranges self.old.schedule) (found (S.ranges self.old.schedule) step before w)) }
+        ensures leaves { MatchResult result (λ x. self.new.reading ≡ after_group (S.ranges self.old.schedule) self.old.reading w (brought x).1) (λ _. self.new.reading ≡ self.old.reading) }
     {
         let place = self.reading.count;
         let (carrier, what) = complete(&self.schedule, step, before, w, place)?;

@@ -30,21 +30,21 @@ pub trait Schedule {
 
 // The symbol that ends a recording.
 pub fn end_mark<S: Schedule>(schedule: &S) -> u64
-    ensures { result ≡ end_mark (ranges schedule.now) }
+    ensures { result ≡ end_mark (S.ranges schedule.now) }
 {
     schedule.base()
 }
 
 // A, the count of symbols: the blocks and the end mark.
 pub fn alphabet<S: Schedule>(schedule: &S) -> u64
-    ensures { result ≡ alphabet (ranges schedule.now) }
+    ensures { result ≡ alphabet (S.ranges schedule.now) }
 {
     end_mark(schedule) + 1
 }
 
 // N, the blocks of the longest recording.
 pub fn longest<S: Schedule>(schedule: &S) -> u64
-    ensures { result ≡ longest (ranges schedule.now) }
+    ensures { result ≡ longest (S.ranges schedule.now) }
 {
     schedule.lead() + 2 * schedule.steps() - 1
 }

@@ -9,7 +9,7 @@ use schedule::interface::{Schedule, alphabet};
 // The first pass on pair j: the carrier and the spill of (s, t).
 pub(crate) fn first_pass<S: Schedule>(schedule: &S, j: u64, s: u64, t: u64) -> (u64, u64)
     requires { (s ≤ 16777216) × (t ≤ 16777216) }
-    ensures exact { j < (ranges schedule.now).steps → result ≡ first_pass (ranges schedule.now) j s t }
+    ensures exact { j < (S.ranges schedule.now).steps → result ≡ first_pass (S.ranges schedule.now) j s t }
     ensures small { (result.0 ≤ 16777216) × (result.1 < 2 ^ 48) }
 {
     let z = t * alphabet(schedule) + s;
@@ -23,7 +23,7 @@ pub(crate) fn first_pass<S: Schedule>(schedule: &S, j: u64, s: u64, t: u64) -> (
 // The second pass on group j: its blocks.
 pub(crate) fn second_pass<S: Schedule>(schedule: &S, j: u64, carrier: u64, spill: u64) -> Group
     requires { (j < 2 ^ 32) × ((carrier ≤ 16777216) × (spill < 2 ^ 48)) }
-    ensures { group_blocks result ≡ group (ranges schedule.now) j carrier spill }
+    ensures { group_blocks result ≡ group (S.ranges schedule.now) j carrier spill }
 {
     let w = carrier * schedule.spill(j) + spill;
     if schedule.lead() + j == 0 {

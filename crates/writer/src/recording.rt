@@ -28,8 +28,8 @@ impl<S: Schedule> Recording<S> {
     // An empty open recording.
     pub fn open(schedule: S) -> Recording<S>
         ensures schedule { result.schedule ≡ schedule }
-        ensures empty { (result.held ≡ opened) × Open (ranges schedule) [] result.held }
-        ensures laws { WriterLaws (ranges schedule) }
+        ensures empty { (result.held ≡ opened) × Open (S.ranges schedule) [] result.held }
+        ensures laws { WriterLaws (S.ranges schedule) }
         ensures worked { WorkedStreams }
     {
         Recording {
@@ -46,7 +46,7 @@ impl<S: Schedule> Recording<S> {
     // many blocks that are. Refuses with 11, 10 or 12, and then leaves recording and buffer as they were.
     pub fn offer(&mut self, piece: &[u64], buffer: &mut [u64]) -> Result<usize, Fault>
         ensures schedule { self.new.schedule ≡ self.old.schedule }
-        ensures offers { Offers (ranges self.old.schedule) self.old.held piece.now buffer.old result self.new.held buffer.new }
+        ensures offers { Offers (S.ranges self.old.schedule) self.old.held piece.now buffer.old result self.new.held buffer.new }
     {
         check_offer(&self.schedule, self.held.count, piece, buffer.len())?;
         let (held, written) = run(&self.schedule, self.held, piece, buffer);
@@ -59,7 +59,7 @@ impl<S: Schedule> Recording<S> {
     pub fn close(self, buffer: &mut [u64]) -> Result<usize, RefusedClose<S>>
     where
         S: Drop,
-        ensures { MatchResult result (λ n. Closes (ranges self.schedule) self.held buffer.old (Ok n) self.held buffer.new) (λ e. Closes (ranges self.schedule) self.held buffer.old (Err e.fault) e.recording.held buffer.new × (e.recording.schedule ≡ self.schedule)) }
+        ensures { MatchResult result (λ n. Closes (S.ranges self.schedule) self.held buffer.old (Ok n) self.held buffer.new) (λ e. Closes (S.ranges self.schedule) self.held buffer.old (Err e.fault) e.recording.held buffer.new × (e.recording.schedule ≡ self.schedule)) }
     {
         match check_close(&self.schedule, self.held.count, buffer.len()) {
             Ok(()) => Ok(finish(&self.schedule, self.held, buffer)),

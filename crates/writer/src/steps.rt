@@ -20,8 +20,8 @@ pub(crate) fn advance<S: Schedule>(schedule: &S, held: Held, symbol: u64) -> (He
     requires symbol { symbol ≤ 16777216 }
     ensures count { result.0.count ≡ held.count + 1 }
     ensures sized { Sized result.0 }
-    ensures long { length (group_blocks result.1) + due (ranges schedule.now) held.count ≡ due (ranges schedule.now) (held.count + 1) }
-    ensures grows { (ss : List ℕ) → held.count < (ranges schedule.now).lead + 2 * (ranges schedule.now).steps → Holds (ranges schedule.now) ss held → Grows (ranges schedule.now) ss (symbol ∷ []) result.0 (group_blocks result.1) }
+    ensures long { length (group_blocks result.1) + due (S.ranges schedule.now) held.count ≡ due (S.ranges schedule.now) (held.count + 1) }
+    ensures grows { (ss : List ℕ) → held.count < (S.ranges schedule.now).lead + 2 * (S.ranges schedule.now).steps → Holds (S.ranges schedule.now) ss held → Grows (S.ranges schedule.now) ss (symbol ∷ []) result.0 (group_blocks result.1) }
 {
     let count = held.count + 1;
     let lead = schedule.lead();
@@ -91,12 +91,12 @@ pub(crate) fn run<S: Schedule>(
     requires count { start.count + length symbols.now < 2 ^ 32 }
     requires sized { Sized start }
     requires below { All (λ x. x ≤ 16777216) symbols.now }
-    requires room { offer_writes (ranges schedule.now) start.count (length symbols.now) ≤ length buffer.old }
+    requires room { offer_writes (S.ranges schedule.now) start.count (length symbols.now) ≤ length buffer.old }
     ensures count { result.0.count ≡ start.count + length symbols.now }
     ensures sized { Sized result.0 }
-    ensures wrote { result.1 ≡ offer_writes (ranges schedule.now) start.count (length symbols.now) }
+    ensures wrote { result.1 ≡ offer_writes (S.ranges schedule.now) start.count (length symbols.now) }
     ensures behind { drop result.1 buffer.new ≡ drop result.1 buffer.old }
-    ensures grows { (ss : List ℕ) → start.count + length symbols.now ≤ (ranges schedule.now).lead + 2 * (ranges schedule.now).steps → Holds (ranges schedule.now) ss start → Grows (ranges schedule.now) ss symbols.now result.0 (take result.1 buffer.new) }
+    ensures grows { (ss : List ℕ) → start.count + length symbols.now ≤ (S.ranges schedule.now).lead + 2 * (S.ranges schedule.now).steps → Holds (S.ranges schedule.now) ss start → Grows (S.ranges schedule.now) ss symbols.now result.0 (take result.1 buffer.new) }
 {
     let mut held = start;
     let mut at = 0;
@@ -111,7 +111,7 @@ pub(crate) fn run<S: Schedule>(
 // How many blocks have been written once n symbols are known.
 fn due<S: Schedule>(schedule: &S, n: u64) -> u64
     requires { n < 2 ^ 32 }
-    ensures { result ≡ due (ranges schedule.now) n }
+    ensures { result ≡ due (S.ranges schedule.now) n }
 {
     let lead = schedule.lead();
     (2 * (n.saturating_sub(lead) / 2) + lead).saturating_sub(1)
@@ -135,7 +135,7 @@ pub(crate) fn check_offer<S: Schedule>(
     room: usize,
 ) -> Result<(), Fault>
     requires { count < 2 ^ 18 }
-    ensures { says result ≡ judged (offer_rows (ranges schedule.now) count piece.now room) tt }
+    ensures { says result ≡ judged (offer_rows (S.ranges schedule.now) count piece.now room) tt }
 {
     let longest = longest(schedule);
     let left = longest.saturating_sub(count);
@@ -155,7 +155,7 @@ pub(crate) fn check_offer<S: Schedule>(
 // How many end marks follow `count` blocks.
 fn mark_count<S: Schedule>(schedule: &S, count: u64) -> usize
     requires { count < 2 ^ 18 }
-    ensures { result ≡ length (marks (ranges schedule.now) count) }
+    ensures { result ≡ length (marks (S.ranges schedule.now) count) }
 {
     if (count + 1 - schedule.lead()) % 2 == 0 {
         1
@@ -167,7 +167,7 @@ fn mark_count<S: Schedule>(schedule: &S, count: u64) -> usize
 // What stands against a close into a buffer of `room` blocks.
 pub(crate) fn check_close<S: Schedule>(schedule: &S, count: u64, room: usize) -> Result<(), Fault>
     requires { count < 2 ^ 18 }
-    ensures { says result ≡ judged (close_rows (ranges schedule.now) count room) tt }
+    ensures { says result ≡ judged (close_rows (S.ranges schedule.now) count room) tt }
 {
     check_room(
         room,
@@ -178,12 +178,12 @@ pub(crate) fn check_close<S: Schedule>(schedule: &S, count: u64, room: usize) ->
 // Takes the end marks, and writes the groups that they complete.
 fn take_marks<S: Schedule>(schedule: &S, held: Held, buffer: &mut [u64]) -> (Held, usize)
     requires small { Small held }
-    requires room { close_writes (ranges schedule.now) held.count ≤ length buffer.old }
-    ensures count { result.0.count ≡ held.count + length (marks (ranges schedule.now) held.count) }
+    requires room { close_writes (S.ranges schedule.now) held.count ≤ length buffer.old }
+    ensures count { result.0.count ≡ held.count + length (marks (S.ranges schedule.now) held.count) }
     ensures sized { Sized result.0 }
-    ensures wrote { result.1 + 2 ≡ close_writes (ranges schedule.now) held.count }
+    ensures wrote { result.1 + 2 ≡ close_writes (S.ranges schedule.now) held.count }
     ensures behind { drop result.1 buffer.new ≡ drop result.1 buffer.old }
-    ensures grows { (ss : List ℕ) → held.count ≤ longest (ranges schedule.now) → Holds (ranges schedule.now) ss held → Grows (ranges schedule.now) ss (marks (ranges schedule.now) held.count) result.0 (take result.1 buffer.new) }
+    ensures grows { (ss : List ℕ) → held.count ≤ longest (S.ranges schedule.now) → Holds (S.ranges schedule.now) ss held → Grows (S.ranges schedule.now) ss (marks (S.ranges schedule.now) held.count) result.0 (take result.1 buffer.new) }
 {
     let mark = end_mark(schedule);
     let marks = [mark, mark];
@@ -194,10 +194,10 @@ fn take_marks<S: Schedule>(schedule: &S, held: Held, buffer: &mut [u64]) -> (Hel
 // Writes the remaining groups with the closing group, whose carrier is 0, and answers how many blocks that are.
 pub(crate) fn finish<S: Schedule>(schedule: &S, held: Held, buffer: &mut [u64]) -> usize
     requires small { Small held }
-    requires room { close_writes (ranges schedule.now) held.count ≤ length buffer.old }
-    ensures wrote { result ≡ close_writes (ranges schedule.now) held.count }
+    requires room { close_writes (S.ranges schedule.now) held.count ≤ length buffer.old }
+    ensures wrote { result ≡ close_writes (S.ranges schedule.now) held.count }
     ensures behind { drop result buffer.new ≡ drop result buffer.old }
-    ensures closes { (blocks : List ℕ) → held.count ≤ longest (ranges schedule.now) → Holds (ranges schedule.now) blocks held → stream (ranges schedule.now) blocks ≡ complete (ranges schedule.now) blocks ++ take result buffer.new }
+    ensures closes { (blocks : List ℕ) → held.count ≤ longest (S.ranges schedule.now) → Holds (S.ranges schedule.now) blocks held → stream (S.ranges schedule.now) blocks ≡ complete (S.ranges schedule.now) blocks ++ take result buffer.new }
 {
     let (last, at) = take_marks(schedule, held, buffer);
     let j = last.count.saturating_sub(schedule.lead()) / 2;

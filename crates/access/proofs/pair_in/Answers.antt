@@ -7,4 +7,4 @@ pub returns : goal.returns
 returns g c =
     groups_answer (g.S.Schedule.ranges c.args.schedule.now) c.args.j c.args.first c.args.part.now _ _ (says c.first-pass-back.result) _ _ _ _ _
     (omega arith) c.earlier.ensures c.later.ensures (omega (arith, c.requires.size)) (omega arith)
-    c.in-ok-carrier.ensures c.in-ok-spill.ensures c.first-pass-back.ensures
+    c.in_ok-carrier.ensures c.in_ok-spill.ensures c.first-pass-back.ensures

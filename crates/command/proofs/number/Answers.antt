@@ -7,24 +7,24 @@ use Rattle.command.proofs.number.Goals as goal
 
 pub returns-then-end-eq0 : goal.returns-then-end-eq0
 returns-then-end-eq0 c =
-    let found = c.leading-digits-end.ensures in
+    let found = c.leading_digits-end.ensures in
     record { reads = reads_none c.args.text.now _ found.within found.digits found.stops c.if-end-eq0.true; shorter = tt }
 
 pub value-requires : goal.value-requires
 value-requires c =
-    let found = c.leading-digits-end.ensures in
-    rw sub-zero (
-      omega (arith, length-take-le c.leading-digits-end.result c.args.text.now found.within.0),
-      all_digits c.args.text.now _ found.within found.digits found.stops,
-    )
+    let found = c.leading_digits-end.ensures in
+    rw sub-zero (record {
+      short = omega (arith, length-take-le c.leading_digits-end.result c.args.text.now found.within.0);
+      digits = all_digits c.args.text.now _ found.within found.digits found.stops;
+    })
 
 pub returns : goal.returns
 returns c =
-    let found = c.leading-digits-end.ensures in
-    let some : 1 ≤ c.leading-digits-end.result = omega arith in
+    let found = c.leading_digits-end.ensures in
+    let some : 1 ≤ c.leading_digits-end.result = omega arith in
     rw take_rest
     (record {
-      reads = subst (λ (v : ℕ). (ns : List ℕ) → Fields ns (space ∷ c.args.text.now) ↔ ((more : List ℕ) × (ns ≡ v ∷ more) × Fields more (drop c.leading-digits-end.result c.args.text.now)))
+      reads = subst (λ (v : ℕ). (ns : List ℕ) → Fields ns (space ∷ c.args.text.now) ↔ ((more : List ℕ) × (ns ≡ v ∷ more) × Fields more (drop c.leading_digits-end.result c.args.text.now)))
           (sym (rw sub-zero at c.value.ensures))
           (reads_number c.args.text.now _ found.within found.digits found.stops some);
       shorter = simp length-drop (omega arith);

@@ -11,19 +11,19 @@ returns-then-rest-ne32 c =
     let some : 0 < length c.loop-rest.rest.now = grind (arith, nat_tests) in
     read_none _ _ _ c.loop-rest.invariant (not_fields c.loop-rest.rest.now some c.if-rest-ne32.true)
 
-pub returns-in-default : goal.returns-in-default
-returns-in-default c =
+pub returns-in_default : goal.returns-in_default
+returns-in_default c =
     let test = c.loop-rest-test.ensures in
     let some : 0 < length c.loop-rest.rest.now = grind (arith, nat_tests) in
     let e = first_is c.loop-rest.rest.now space some c.if-rest-ne32.false in
-    read_none _ _ _ c.loop-rest.invariant (λ ns f. c.in-default.ensures.reads ns (subst (Fields ns) e f))
+    read_none _ _ _ c.loop-rest.invariant (λ ns f. c.in_default.ensures.reads ns (subst (Fields ns) e f))
 
 pub loop-rest-preserved : goal.loop-rest-preserved
 loop-rest-preserved c =
     let test = c.loop-rest-test.ensures in
     let some : 0 < length c.loop-rest.rest.now = grind (arith, nat_tests) in
     let e = first_is c.loop-rest.rest.now space some c.if-rest-ne32.false in
-    rw c.in-ok-push.ensures.items
+    rw c.in_ok-push.ensures.items
     (left_after _ _ _ _ _ c.loop-rest.invariant
     (λ ns. (λ f. (c.in-Some.ensures.reads ns).0 (subst (Fields ns) e f), λ p. subst (Fields ns) (sym e) ((c.in-Some.ensures.reads ns).1 p))))
 

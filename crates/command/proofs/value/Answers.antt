@@ -12,7 +12,7 @@ pub loop-digit-preserved : goal.loop-digit-preserved
 loop-digit-preserved c =
     let i = c.loop-digit.digit-index in (
       sym (at_drop_more (value_after c.loop-digit.value) c.args.digits.now i 0 (omega arith)) ∙ c.loop-digit.invariant.0,
-      more _ i _ c.loop-digit.invariant.1 (All-get_or Digit c.args.digits.now i 0 (omega arith) c.requires.1).1,
+      more _ i _ c.loop-digit.invariant.1 (All-get_or Digit c.args.digits.now i 0 (omega arith) c.requires.digits).1,
     )
 
 pub returns : goal.returns
@@ -20,6 +20,6 @@ returns c =
     sym (at_drop_all (value_after c.loop-digit.value) c.args.digits.now c.loop-digit.digit-index (omega arith))
     ∙ c.loop-digit.invariant.0
 
-pub overflow-sub-value : goal.overflow-sub-value
-overflow-sub-value c =
-    (All-get_or Digit c.args.digits.now c.loop-digit.digit-index 0 (omega arith) c.requires.1).0
+pub overflow_sub-value : goal.overflow_sub-value
+overflow_sub-value c =
+    (All-get_or Digit c.args.digits.now c.loop-digit.digit-index 0 (omega arith) c.requires.digits).0

@@ -22,13 +22,13 @@ two_bytes size k m some three below =
     let most : 256 ^ (size - k) ≤ 65536 = pow-le-pow_right (omega arith) two in
     omega arith
 
-pub overflow-mul-block : goal.overflow-mul-block
-overflow-mul-block c =
+pub overflow_mul-block : goal.overflow_mul-block
+overflow_mul-block c =
     let small = two_bytes c.args.size c.loop-k.k c.loop-k.block (omega arith) (omega arith) c.loop-k.invariant.1 in
     omega arith
 
-pub overflow-add-block : goal.overflow-add-block
-overflow-add-block c =
+pub overflow_add-block : goal.overflow_add-block
+overflow_add-block c =
     let small = two_bytes c.args.size c.loop-k.k c.loop-k.block (omega arith) (omega arith) c.loop-k.invariant.1 in
     omega arith
 

@@ -3,14 +3,14 @@ use Rattle.schedule.proofs.Sizes.{spill_range}
 use Rattle.reader.proofs.Tests.{group_there}
 use Rattle.reader.proofs.back.second_pass_back.Goals as goal
 
-pub nonzero-div-carrier : goal.nonzero-div-carrier
-nonzero-div-carrier g c =
+pub nonzero_div-carrier : goal.nonzero_div-carrier
+nonzero_div-carrier g c =
     let R = g.S.Schedule.ranges c.args.schedule.now in
     let law = g.met.S.Schedule.lawful c.args.schedule.now in
     omega (arith, (spill_range R law c.args.j (group_there R law c.args.j (omega arith))).0)
 
-pub nonzero-rem-spill : goal.nonzero-rem-spill
-nonzero-rem-spill g c =
+pub nonzero_rem-spill : goal.nonzero_rem-spill
+nonzero_rem-spill g c =
     let R = g.S.Schedule.ranges c.args.schedule.now in
     let law = g.met.S.Schedule.lawful c.args.schedule.now in
     omega (arith, (spill_range R law c.args.j (group_there R law c.args.j (omega arith))).0)

@@ -58,6 +58,6 @@ pub returns-in-41 : goal.returns-in-41
 unfolding text_of
 returns-in-41 c = sym (ap text_of c.in-41.is)
 
-pub returns-in-default : goal.returns-in-default
+pub returns-in_default : goal.returns-in_default
 unfolding text_of
-returns-in-default c = search rules
+returns-in_default c = search rules
