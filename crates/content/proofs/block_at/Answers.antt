@@ -34,6 +34,6 @@ overflow_add-block c =
 
 pub loop-k-preserved : goal.loop-k-preserved
 loop-k-preserved c = (
-  one_more c.args.size c.loop-k.k (c.args.i * c.args.size) _ _ _ (omega arith) (omega arith) c.byte-at.ensures.is c.loop-k.invariant.0,
-  one_more_below c.args.size c.loop-k.k _ _ (omega arith) (omega arith) c.byte-at.ensures.below c.loop-k.invariant.1,
+  one_more c.args.size c.loop-k.k (c.args.i * c.args.size) _ _ _ (omega arith) (omega arith) c.byte_at.ensures.is c.loop-k.invariant.0,
+  one_more_below c.args.size c.loop-k.k _ _ (omega arith) (omega arith) c.byte_at.ensures.below c.loop-k.invariant.1,
 )

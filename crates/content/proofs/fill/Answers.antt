@@ -18,9 +18,9 @@ loop-i-preserved c =
     let here : c.loop-i.i < length c.loop-i.buffer = omega arith in (
       below_more _ _
           (λ k h. let ne : k ≢ c.loop-i.i = omega arith in rw get_or-set_other (c.loop-i.invariant.0 k h))
-          (rw get_or-set_same c.block-at.ensures.is),
+          (rw get_or-set_same c.block_at.ensures.is),
       below_more _ _
           (λ k h. let ne : k ≢ c.loop-i.i = omega arith in rw get_or-set_other (c.loop-i.invariant.1 k h))
-          (rw get_or-set_same c.block-at.ensures.below),
+          (rw get_or-set_same c.block_at.ensures.below),
       λ k h. let ne : k ≢ c.loop-i.i = omega arith in rw get_or-set_other (c.loop-i.invariant.2 k (omega arith)),
     )
