@@ -5,6 +5,6 @@ use Rattle.access.proofs.pair_in.Goals as goal
 
 pub returns : goal.returns
 returns g c =
-    groups_answer (g.S.Schedule.ranges c.args.schedule.now) c.args.j c.args.first c.args.part.now _ _ (says c.first-pass-back.result) _ _ _ _ _
+    groups_answer (g.S.Schedule.ranges c.args.schedule.now) c.args.j c.args.first c.args.part.now _ _ (says c.first_pass_back.result) _ _ _ _ _
     (omega arith) c.earlier.ensures c.later.ensures (omega (arith, c.requires.size)) (omega arith)
-    c.in_ok-carrier.ensures c.in_ok-spill.ensures c.first-pass-back.ensures
+    c.in_ok-carrier.ensures c.in_ok-spill.ensures c.first_pass_back.ensures

@@ -8,8 +8,8 @@ ends_near size count i some inside =
     let ends : suc i * size ≤ count + (size - 1) = (le-div_iff_mul-le some).0 inside in
     omega (arith, suc-mul i size)
 
-pub block-at-requires : goal.block-at-requires
-block-at-requires c =
+pub block_at-requires : goal.block_at-requires
+block_at-requires c =
     let near = ends_near c.args.size (length c.args.bytes.now) c.loop-i.i (omega arith) (omega arith) in
     (omega arith, omega arith)
 

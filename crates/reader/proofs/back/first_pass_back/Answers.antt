@@ -16,16 +16,16 @@ returns-then-t-mark g c =
     let R = g.S.Schedule.ranges c.args.schedule.now in
     let law = g.met.S.Schedule.lawful c.args.schedule.now in
     let below = c.if-z-symbols.false in
-    let ez = exact R law _ _ _ _ _ _ _ c.alphabet-symbols.ensures c.carrier.ensures c.saturating-mul.ensures c.saturating-add-z.ensures below in
-    pair_23 R c.args.place _ _ _ _ ez c.alphabet-symbols.ensures c.end-mark-mark.ensures below c.if-s-mark.true c.if-t-mark.true
+    let ez = exact R law _ _ _ _ _ _ _ c.alphabet-symbols.ensures c.carrier.ensures c.saturating_mul.ensures c.saturating_add-z.ensures below in
+    pair_23 R c.args.place _ _ _ _ ez c.alphabet-symbols.ensures c.end_mark-mark.ensures below c.if-s-mark.true c.if-t-mark.true
 
 pub returns : goal.returns
 returns g c =
     let R = g.S.Schedule.ranges c.args.schedule.now in
     let law = g.met.S.Schedule.lawful c.args.schedule.now in
     let below = c.if-z-symbols.false in
-    let ez = exact R law _ _ _ _ _ _ _ c.alphabet-symbols.ensures c.carrier.ensures c.saturating-mul.ensures c.saturating-add-z.ensures below in
+    let ez = exact R law _ _ _ _ _ _ _ c.alphabet-symbols.ensures c.carrier.ensures c.saturating_mul.ensures c.saturating_add-z.ensures below in
     ⊎_elim
-    (λ p. pair_marks R c.args.place _ _ _ _ ez c.alphabet-symbols.ensures c.end-mark-mark.ensures below p.0 p.1)
-    (λ p. pair_block R c.args.place _ _ _ _ ez c.alphabet-symbols.ensures c.end-mark-mark.ensures below p)
+    (λ p. pair_marks R c.args.place _ _ _ _ ez c.alphabet-symbols.ensures c.end_mark-mark.ensures below p.0 p.1)
+    (λ p. pair_block R c.args.place _ _ _ _ ez c.alphabet-symbols.ensures c.end_mark-mark.ensures below p)
     c.else-s-mark.either

@@ -19,13 +19,13 @@ returns g c =
     let R = g.S.Schedule.ranges c.args.schedule.now in
     let law = g.met.S.Schedule.lawful c.args.schedule.now in
     let high = law.lead_high in
-    let long = ap length c.second-pass-group.ensures in
+    let long = ap length c.second_pass-group.ensures in
     let size = group_length R.lead R.base ((c.args.held.count - c.lead-lead.result) / 2) _ in
     record {
       count = refl;
-      sized = (c.first-pass-carrier.ensures.small.1, omega arith);
+      sized = (c.first_pass-carrier.ensures.small.1, omega arith);
       long = due_grows R.lead c.args.held.count _ high (omega arith) (omega arith)
           (λ e. long ∙ size.0 (omega arith), λ h. long ∙ size.1 (omega arith));
       grows = λ ss few holds. held_joins _ ss c.args.held holds c.args.symbol (omega arith) (omega arith) _ (omega arith) _
-          (c.first-pass-carrier.ensures.exact (omega arith)) _ c.second-pass-group.ensures;
+          (c.first_pass-carrier.ensures.exact (omega arith)) _ c.second_pass-group.ensures;
     }

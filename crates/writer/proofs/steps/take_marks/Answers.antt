@@ -18,12 +18,12 @@ run-requires g c =
     let law = g.met.S.Schedule.lawful c.args.schedule.now in
     let count = c.args.held.count in
     let m : Marked R count (marks R count) = marked R law.lead_high count in
-    let same = ap length (same_marks R count c.mark-count-count.result c.end-mark-mark.result m c.mark-count-count.ensures c.end-mark-mark.ensures) in
-    let high : c.end-mark-mark.result ≤ 16777216 = omega (arith, law.base_high) in
+    let same = ap length (same_marks R count c.mark_count-count.result c.end_mark-mark.result m c.mark_count-count.ensures c.end_mark-mark.ensures) in
+    let high : c.end_mark-mark.result ≤ 16777216 = omega (arith, law.base_high) in
     record {
       count = omega (arith, same, m.few);
       sized = c.requires.small.1;
-      below = All-take (λ x. x ≤ 16777216) (c.mark-count-count.result - 0) (c.end-mark-mark.result ∷ c.end-mark-mark.result ∷ []) (high, (high, tt));
+      below = All-take (λ x. x ≤ 16777216) (c.mark_count-count.result - 0) (c.end_mark-mark.result ∷ c.end_mark-mark.result ∷ []) (high, (high, tt));
       room = omega (arith, marks_write R law count _ same, c.requires.room);
     }
 
@@ -33,7 +33,7 @@ returns g c =
     let law = g.met.S.Schedule.lawful c.args.schedule.now in
     let count = c.args.held.count in
     let m : Marked R count (marks R count) = marked R law.lead_high count in
-    let same = same_marks R count c.mark-count-count.result c.end-mark-mark.result m c.mark-count-count.ensures c.end-mark-mark.ensures in
+    let same = same_marks R count c.mark_count-count.result c.end_mark-mark.result m c.mark_count-count.ensures c.end_mark-mark.ensures in
     let ran = c.run.ensures in
     record {
       count = ran.count ∙ ap (λ (ms : List ℕ). count + length ms) same;

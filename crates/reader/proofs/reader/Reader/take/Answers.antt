@@ -9,12 +9,12 @@ pub returns-in-Second-default : goal.returns-in-Second-default
 returns-in-Second-default g c =
     let R = g.S.Schedule.ranges c.args.self.now.schedule in
     let law = g.met.S.Schedule.lawful c.args.self.now.schedule in
-    let went = c.go-on-in-Second-default.ensures in
+    let went = c.go_on-in-Second-default.ensures in
     let small : c.args.block < R.base = omega arith in
     let is = ap (λ (base : ℕ). c.args.block * base + c.in-Second-default.low) c.base-base.ensures in
     let count = c.args.self.now.reading.count in
-    let answer = c.go-on-in-Second-default.result in
-    let left = c.go-on-in-Second-default.new.self.reading in
+    let answer = c.go_on-in-Second-default.result in
+    let left = c.go_on-in-Second-default.new.self.reading in
     let w = c.args.block * c.base-base.result + c.in-Second-default.low in
     let leaves =
     subst
