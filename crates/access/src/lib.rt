@@ -1,4 +1,6 @@
 // Lookup: one block of a stream, from the groups that hold it.
+#![tactic(auto)]
+
 ghost use Rattle.std.specs.Prelude.{◌≡◌, ℕ, ◌+◌, ◌-◌, ◌*◌, ◌/◌, ◌%◌, ◌^◌, ◌<◌, ◌≤◌, ◌++◌, length, OnOk, slice_index};
 ghost use Rattle.schedule.specs.Faults.{says, judged};
 ghost use Rattle.writer.specs.Passes.{pair_of, second_pass_back};

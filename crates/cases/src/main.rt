@@ -1,4 +1,6 @@
 // Worked cases, a line each, and a count at the end. tools/cases_reference.py works out what they have to print.
+#![tactic(auto)]
+
 mod looking;
 mod packing;
 mod reading;

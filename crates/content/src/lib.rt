@@ -1,4 +1,6 @@
 // Bytes packed into blocks.
+#![tactic(auto)]
+
 ghost use Rattle.std.specs.Prelude.{◌≡◌, ℕ, ◌+◌, ◌*◌, ◌/◌, ◌^◌, ◌<◌, ◌≤◌, not, [], ◌∷◌, length, MatchResult, ◌==◌, nat_lt, slice_index};
 ghost use Rattle.schedule.specs.Faults.{says, judged};
 ghost use Rattle.schedule.specs.Kinds.{known};

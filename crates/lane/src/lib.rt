@@ -1,4 +1,6 @@
 // Recordings and readers of one schedule.
+#![tactic(auto)]
+
 ghost use Rattle.std.specs.Prelude.{◌≡◌};
 ghost use Rattle.schedule.specs.Ranges.{longest};
 ghost use Rattle.writer.specs.Holding.{opened};

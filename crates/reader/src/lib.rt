@@ -1,4 +1,6 @@
 // The reader: streams become recordings again.
+#![tactic(auto)]
+
 pub mod back;
 pub mod reader;
 pub mod reading;

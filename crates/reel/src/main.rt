@@ -1,4 +1,6 @@
 // Reads lines from standard input, and acts on each by its letter. docs/REEL.md has the lines.
+#![tactic(auto)]
+
 use lane::{longest_recording, open_lane};
 use reader::reader::Reader;
 use reader::reading::Brought;

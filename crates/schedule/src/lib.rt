@@ -1,4 +1,6 @@
 // Schedules and faults: the layer that everything else stands on.
+#![tactic(auto)]
+
 pub mod fault;
 pub mod interface;
 pub mod lose;

@@ -1,4 +1,6 @@
 // The writer: a recording becomes a stream.
+#![tactic(auto)]
+
 pub mod blocks;
 mod held;
 mod passes;

@@ -1,4 +1,4 @@
-use Rattle.std.proofs.Common.{◌≡◌, ℕ, ◌+◌, ◌-◌, ◌/◌, List, ◌++◌, length, take, sym, ap, ◌∙◌, subst, arith}
+use Rattle.std.proofs.Common.{◌≡◌, ℕ, ◌/◌, List, ◌++◌, length, take, sym, ap, ◌∙◌, subst, arith}
 use Rattle.writer.specs.Stream.{marks, complete}
 use Rattle.writer.specs.Holding.{Grows, group_blocks}
 use Rattle.writer.proofs.Growing.{behind_later}
