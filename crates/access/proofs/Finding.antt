@@ -1,6 +1,6 @@
 -- What a lookup finds in the stream of a recording.
 use Rattle.std.proofs.Common.{◌≡◌, ℕ, zero, suc, ◌+◌, ◌-◌, ◌*◌, ◌%◌, ◌<◌, ◌≤◌, Bool, false, cond, not, ◌&&◌, eqb, ltb, leb, List, ◌∷◌, ◌++◌, length, get_or, take, drop, sym, refl, ap, ◌∙◌, ap₂, mod-lt, div-add-mod', arith}
-use Rattle.std.specs.List.{AllByRecursion as All}
+use Rattle.std.specs.List.{AllByRecursion}
 use Rattle.std.proofs.lemmas.List.{take_at}
 use Rattle.std.proofs.ByRecursion.{All-drop, All-take}
 use Rattle.schedule.specs.Faults.{judged}
@@ -24,14 +24,14 @@ use Rattle.access.proofs.Middle.{Headed, headed, head, earlier_number, later_num
 skips : (rows more : List (ℕ × ℕ × Bool)) (x : ℕ) → Clear rows → judged (rows ++ more) x ≡ judged more x
 skips rows more x c = judged_then rows more x x x (sym (clear_judged rows x c))
 
-none_too_large : (R : Ranges) (first : ℕ) (xs : List ℕ) → All (λ x. x < R.base) xs → ltb (front_below R.base xs) (length xs) ≡ false
+none_too_large : (R : Ranges) (first : ℕ) (xs : List ℕ) → AllByRecursion (λ x. x < R.base) xs → ltb (front_below R.base xs) (length xs) ≡ false
 none_too_large R first xs a = not_leb (suc (front_below R.base xs)) (length xs) (omega (arith, none_large R.base xs a))
 
 -- The pair (s, t), behind the symbols xs.
 module _ (R : Ranges) (law : Lawful R) (i y s t : ℕ) (xs rest : List ℕ) (long : length xs ≡ 2 * i) (fits : 2 * i + length rest + 2 ≤ 2 * R.steps)
-    (hy : y < R.spill 0) (hxs : All (λ x. x < alphabet R) xs) (hs : s < alphabet R) (ht : t < alphabet R)
+    (hy : y < R.spill 0) (hxs : AllByRecursion (λ x. x < alphabet R) xs) (hs : s < alphabet R) (ht : t < alphabet R)
     (order : (eqb s (end_mark R) && not (eqb t (end_mark R))) ≡ false)
-    (blocks : List ℕ) (is : blocks ≡ closed R 0 y (xs ++ s ∷ t ∷ rest)) (below : All (λ x. x < R.base) blocks) where
+    (blocks : List ℕ) (is : blocks ≡ closed R 0 y (xs ++ s ∷ t ∷ rest)) (below : AllByRecursion (λ x. x < R.base) blocks) where
   abbrev middle : List ℕ
   middle = part R blocks i
 
@@ -88,7 +88,7 @@ spill_first (suc l) ss h = refl
 
 -- The first symbol, with lead 1.
 module _ (R : Ranges) (law : Lawful R) (one : R.lead ≡ 1) (y : ℕ) (zs : List ℕ) (fits : length zs ≤ 2 * R.steps) (hy : y < R.spill 0)
-    (blocks : List ℕ) (is : blocks ≡ closed R 0 y zs) (below : All (λ x. x < R.base) blocks) where
+    (blocks : List ℕ) (is : blocks ≡ closed R 0 y zs) (below : AllByRecursion (λ x. x < R.base) blocks) where
   abbrev front : Headed R 0 y zs
   front = headed R law 0 y zs (omega arith)
 

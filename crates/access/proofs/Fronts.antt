@@ -1,6 +1,6 @@
 -- Blocks that are all below the base.
 use Rattle.std.proofs.Common.{◌≡◌, ℕ, zero, suc, ◌<◌, ◌≤◌, List, [], ◌∷◌, length, get_or, refl, ap, ◌∙◌, arith}
-use Rattle.std.specs.List.{AllByRecursion as All}
+use Rattle.std.specs.List.{AllByRecursion}
 use Rattle.std.proofs.lemmas.Bool.Decides.{nat_tests}
 use Rattle.writer.specs.Calls.{front_below}
 
@@ -17,6 +17,6 @@ each_below base (x ∷ xs) h zero l = head_below base x xs (omega arith)
 each_below base (x ∷ xs) h (suc k) l =
     each_below base xs (omega (arith, goes_on base x xs (head_below base x xs (omega arith)))) k (omega arith)
 
-pub none_large : (base : ℕ) (xs : List ℕ) → All (λ x. x < base) xs → front_below base xs ≡ length xs
+pub none_large : (base : ℕ) (xs : List ℕ) → AllByRecursion (λ x. x < base) xs → front_below base xs ≡ length xs
 none_large base [] a = refl
 none_large base (x ∷ xs) a = goes_on base x xs a.0 ∙ ap suc (none_large base xs a.1)

@@ -1,6 +1,6 @@
 -- The symbols of a recording, by their places.
 use Rattle.std.proofs.Common.{◌≡◌, ℕ, zero, suc, ◌+◌, ◌-◌, ◌<◌, ◌≤◌, Bool, true, false, not, ◌&&◌, eqb, List, [], ◌∷◌, length, get_or, sym, refl, ap, ◌∙◌, subst, ⊎_elim, arith}
-use Rattle.std.specs.List.{AllByRecursion as All}
+use Rattle.std.specs.List.{AllByRecursion}
 use Rattle.std.proofs.lemmas.List.{length-append, get_or_append_left, get_or-append_right, get_or-take}
 use Rattle.schedule.specs.Ranges.{Ranges, Lawful, alphabet, end_mark}
 use Rattle.schedule.proofs.Sizes.{split}
@@ -13,7 +13,7 @@ two_same m zero h = refl
 two_same m (suc zero) h = refl
 two_same m (suc (suc i)) h = absurd (omega arith)
 
-all_at : (m : ℕ) (xs : List ℕ) → All (λ x. x < m) xs → (k : ℕ) → k < length xs → get_or xs k 0 < m
+all_at : (m : ℕ) (xs : List ℕ) → AllByRecursion (λ x. x < m) xs → (k : ℕ) → k < length xs → get_or xs k 0 < m
 all_at m [] a k h = absurd (omega arith)
 all_at m (x ∷ xs) a zero h = a.0
 all_at m (x ∷ xs) a (suc k) h = all_at m xs a.1 k (omega arith)

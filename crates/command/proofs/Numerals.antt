@@ -1,6 +1,6 @@
 -- The number that leads some fields is the longest run of digits behind the first space.
 use Rattle.std.proofs.Common.{◌≡◌, ℕ, ◌+◌, ◌<◌, ◌≤◌, ◌⊎◌, ◌↔◌, List, [], ◌∷◌, ◌++◌, length, get_or, take, drop, sym, refl, ap, ◌∙◌, subst, inl, inr, arith}
-use Rattle.std.specs.List.{AllByRecursion as All}
+use Rattle.std.specs.List.{AllByRecursion}
 use Rattle.std.proofs.lemmas.List.{length-append, length-take-le, take-append-drop, get_or-take, get_or_append_left, get_or-append-add, take_at, drop_at}
 use Rattle.std.proofs.ByRecursion.{All-get_or, All-from_get_or}
 use Rattle.command.specs.Lines.{space, Digit, Numeral, Fields, value_after}
@@ -18,7 +18,7 @@ module _ (text : List ℕ) (end : ℕ)
     (within : (end ≤ length text) × (end ≤ 9))
     (digits : (k : ℕ) → k < end → Digit (get_or text k 0))
     (stops : end < length text → end < 9 → Digit (get_or text end 0) → ⊥) where
-  pub all_digits : All Digit (take end text)
+  pub all_digits : AllByRecursion Digit (take end text)
   all_digits =
       All-from_get_or Digit (take end text) 0
       (λ k h. let l = length-take-le end text within.0 in

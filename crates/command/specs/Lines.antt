@@ -1,6 +1,6 @@
 -- What a line of `reel` says: a letter, and numbers, each with one space before it.
 use Rattle.std.specs.Prelude.{◌≡◌, ℕ, ◌+◌, ◌-◌, ◌*◌, ◌≤◌, List, [], ◌∷◌, ◌++◌, length, Some, None, vec_items, Option, ◌≢◌}
-use Rattle.std.specs.List.{AllByRecursion as All}
+use Rattle.std.specs.List.{AllByRecursion}
 use Rattle.command.specs.declared.Line.{Line}
 
 abbrev pub space : ℕ
@@ -19,7 +19,7 @@ value_after n (c ∷ cs) = value_after (n * 10 + (c - 48)) cs
 
 -- These bytes write this number: 1 to 9 decimal digits, leading zeros allowed.
 pub record Numeral (n : ℕ) (bytes : List ℕ) : Type 0 where
-  pub digits : All Digit bytes
+  pub digits : AllByRecursion Digit bytes
   pub some : 1 ≤ length bytes
   pub few : length bytes ≤ 9
   pub value : value_after 0 bytes ≡ n
@@ -42,4 +42,4 @@ given (Some l) = Some (l.letter, vec_items l.numbers)
 -- A text's first line and what stands behind its line feed.
 pub record Cut (text line rest : List ℕ) : Type 0 where
   pub whole : text ≡ line ++ line_feed ∷ rest
-  pub one_line : All (λ c. c ≢ line_feed) line
+  pub one_line : AllByRecursion (λ c. c ≢ line_feed) line

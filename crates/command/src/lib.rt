@@ -3,7 +3,7 @@
 
 ghost use Rattle.std.specs.Prelude.{◌≡◌, ℕ, ◌<◌, ◌≤◌, ◌↔◌, List, ◌∷◌, length, IfSome, IfOk, Some, vec_items, MatchOption, ◌≢◌, slice_index};
 ghost use Rattle.std.specs.Option.{option_map};
-ghost use Rattle.std.specs.List.{AllByRecursion as All};
+ghost use Rattle.std.specs.List.{AllByRecursion};
 ghost use Rattle.command.specs.Lines.{Digit, Fields, Says, Cut, given, value_after, space, line_feed};
 
 use std::alloc::{AllocError, Global};
@@ -17,7 +17,7 @@ pub struct Line {
 
 // The first line of a text, and what stands behind its line feed; none where the text has no line feed.
 pub fn first_line(text: &[u8]) -> Option<(&[u8], &[u8])>
-    ensures { MatchOption result (All (λ c. c ≢ line_feed) text.now) (λ p. Cut text.now p.0.now p.1.now) }
+    ensures { MatchOption result (AllByRecursion (λ c. c ≢ line_feed) text.now) (λ p. Cut text.now p.0.now p.1.now) }
 {
     for (i, byte) in text.iter().enumerate() {
         if *byte == b'\n' {
@@ -44,7 +44,7 @@ fn leading_digits(text: &[u8]) -> usize
 // The number that these digits write.
 fn value(digits: &[u8]) -> u64
     requires short { length digits.now ≤ 9 }
-    requires digits { All Digit digits.now }
+    requires digits { AllByRecursion Digit digits.now }
     ensures { result ≡ value_after 0 digits.now }
 {
     let mut value = 0u64;

@@ -1,6 +1,6 @@
 -- A reader that takes joined streams hands their recordings over.
 use Rattle.std.proofs.Common.{◌≡◌, ℕ, Bool, true, false, List, [], ◌∷◌, ◌++◌, map, Ok, Err, Result, sym, refl, ap, ◌∙◌, subst, ap₂, arith}
-use Rattle.std.specs.List.{AllByRecursion as All}
+use Rattle.std.specs.List.{AllByRecursion}
 use Rattle.schedule.specs.declared.fault.Fault.{Fault}
 use Rattle.schedule.specs.Ranges.{Ranges, Lawful}
 use Rattle.writer.specs.Stream.{Valid, stream}
@@ -21,7 +21,7 @@ record Handed (R : Ranges) (since xs : List ℕ) (more : List Request) (replies 
   rest : List Reply
   goes_on : Reads R started rest
   asks : map request rest ≡ more
-  all_accepted : All Accepted rest → All Accepted replies
+  all_accepted : AllByRecursion Accepted rest → AllByRecursion Accepted replies
   hands : handed since replies ≡ xs ∷ handed [] rest
 
 module _ (R : Ranges) where
@@ -79,7 +79,7 @@ module _ (R : Ranges) where
       (λ k s a r. takes_all bs k s xs more replies a r rest) a.0.0 a.0.1 ok.2 a.2)
 
   -- A stop of a new reader.
-  stops_new : (replies : List Reply) → Reads R started replies → map request replies ≡ stop_it ∷ [] → All Accepted replies × (handed [] replies ≡ [])
+  stops_new : (replies : List Reply) → Reads R started replies → map request replies ≡ stop_it ∷ [] → AllByRecursion Accepted replies × (handed [] replies ≡ [])
   stops_new [] q e = let z : ◌≡◌ {A = ℕ} 0 1 = cc in absurd (omega arith)
   stops_new (took b answer ∷ replies) q e = let z : ◌≡◌ {A = ℕ} 0 1 = cc in absurd (omega arith)
   stops_new (stopped (Err f) ∷ replies) q e = let f = q.1.answers in let z : ◌≡◌ {A = ℕ} 0 1 = cc in absurd (omega arith)
@@ -91,8 +91,8 @@ module _ (R : Ranges) where
   append_map (b ∷ bs) cs more = ap (λ (rs : List Request). take_it b ∷ rs) (append_map bs cs more)
 
 module _ (R : Ranges) (law : Lawful R) where
-  takes_joined : (xss : List (List ℕ)) → All (Valid R) xss → (replies : List Reply) → Reads R started replies →
-      map request replies ≡ map take_it (joined (map (stream R) xss)) ++ stop_it ∷ [] → All Accepted replies × (handed [] replies ≡ xss)
+  takes_joined : (xss : List (List ℕ)) → AllByRecursion (Valid R) xss → (replies : List Reply) → Reads R started replies →
+      map request replies ≡ map take_it (joined (map (stream R) xss)) ++ stop_it ∷ [] → AllByRecursion Accepted replies × (handed [] replies ≡ xss)
   takes_joined [] v replies q e = stops_new R replies q e
   takes_joined (xs ∷ xss) v replies q e =
       let rest = joined (map (stream R) xss) in
@@ -102,7 +102,7 @@ module _ (R : Ranges) (law : Lawful R) where
       (h.all_accepted ih.0, h.hands ∙ ap (λ (zs : List (List ℕ)). xs ∷ zs) ih.1)
 
   -- The runs wrote the streams of what they accepted.
-  streams_of : (runs : List (List Call)) → All (Recorded R) runs → All (Valid R) (map accepted runs) × (map wrote runs ≡ map (stream R) (map accepted runs))
+  streams_of : (runs : List (List Call)) → AllByRecursion (Recorded R) runs → AllByRecursion (Valid R) (map accepted runs) × (map wrote runs ≡ map (stream R) (map accepted runs))
   streams_of [] r = (tt, refl)
   streams_of (run ∷ runs) r =
       let w = writes_streams R law run r.0 in

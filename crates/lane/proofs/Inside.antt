@@ -1,7 +1,7 @@
 -- A reader inside a stream: what it has accepted since the last end are the groups of what it has brought since.
 use Rattle.std.proofs.Common.{◌≡◌, ℕ, zero, suc, ◌+◌, ◌-◌, ◌*◌, ◌/◌, ◌%◌, ◌<◌, ◌≤◌, Bool, true, false, cond, not, ◌&&◌, ◌||◌, eqb, List, [], ◌∷◌, ◌++◌, length, drop, sym, refl, ap, ◌∙◌, subst, ap₂, append-nil, zero-le, mod-lt, div-lt_iff_lt-mul, div-add-mod', arith}
 use lib.Arith.{digits_div, digits_mod}
-use Rattle.std.specs.List.{AllByRecursion as All}
+use Rattle.std.specs.List.{AllByRecursion}
 use Rattle.std.proofs.lemmas.List.{length-append}
 use Rattle.std.proofs.ByRecursion.{All-append}
 use Rattle.std.proofs.lemmas.Bool.Decides.{nat_tests}
@@ -19,7 +19,7 @@ use Rattle.lane.proofs.Extending.{complete_pair, spill_pair, stream_pair, symbol
 
 pub record Known (R : Ranges) (j r : ℕ) (bs since : List ℕ) : Type 0 where
   pub long : length since ≡ 2 * j + R.lead
-  pub below : All (λ x. x < R.base) since
+  pub below : AllByRecursion (λ x. x < R.base) since
   pub blocks : bs ≡ complete R since ++ group R j r (spill_left R since)
 
 abbrev pub Inside : Ranges → Half → List ℕ → List ℕ → Type 0
@@ -50,7 +50,7 @@ read_pair R i before y h =
 
 module _ (R : Ranges) (law : Lawful R) where
   -- The longest recording has its mark in the last pair.
-  valid_from : (since : List ℕ) (j : ℕ) → length since ≤ 2 * j + R.lead + 1 → j < R.steps → All (λ x. x < R.base) since → Valid R since
+  valid_from : (since : List ℕ) (j : ℕ) → length since ≤ 2 * j + R.lead + 1 → j < R.steps → AllByRecursion (λ x. x < R.base) since → Valid R since
   valid_from since j h l b = record { below = b; few = omega arith }
 
   -- The pair before group i + 1: both are blocks.

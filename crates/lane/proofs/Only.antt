@@ -1,7 +1,7 @@
 -- A reader accepts streams, and nothing else.
 use Rattle.std.proofs.Common.{◌≡◌, ℕ, zero, suc, ◌+◌, ◌*◌, ◌/◌, ◌<◌, ◌≤◌, Bool, true, false, ltb, List, [], ◌∷◌, ◌++◌, map, length, Some, None, Ok, Err, Option, Result, sym, refl, ap, ◌∙◌, subst, ap₂, append_assoc, append-nil, arith}
 use lib.Arith.{digits_div, digits_mod}
-use Rattle.std.specs.List.{AllByRecursion as All}
+use Rattle.std.specs.List.{AllByRecursion}
 use Rattle.std.proofs.lemmas.List.{length-append}
 use Rattle.std.proofs.lemmas.Bool.Decides.{nat_tests}
 use Rattle.schedule.specs.Ranges.{Ranges, Lawful}
@@ -127,7 +127,7 @@ module _ (R : Ranges) (law : Lawful R) where
       (group_moves R law n j before w r.half_below.0 r.step_high i.0 since i.2 (brought x) c.group_shown))
 
   abbrev ReadsStreams : List ℕ → List ℕ → List Reply → Type 0
-  ReadsStreams bs since rs = (bs ++ taken rs ≡ joined (map (stream R) (handed since rs))) × All (Valid R) (handed since rs)
+  ReadsStreams bs since rs = (bs ++ taken rs ≡ joined (map (stream R) (handed since rs))) × AllByRecursion (Valid R) (handed since rs)
 
   -- A stop between streams: nothing is left over.
   none_left : (n : ℕ) (h : Half) (bs since : List ℕ) → InRange R (record { count = n; half = h }) → Inside R h bs since → n ≡ 0 → bs ≡ []
@@ -155,7 +155,7 @@ module _ (R : Ranges) (law : Lawful R) where
           (Inside R q.0.half (bs ++ b ∷ []) (since ++ ys) → ReadsStreams (bs ++ b ∷ []) (since ++ ys) rs) →
           (q.0 ≡ started → ReadsStreams [] [] rs) →
           let out : List (List ℕ) = elim end [ true ↦ (since ++ ys) ∷ handed [] rs | false ↦ handed (since ++ ys) rs ] in
-          (bs ++ b ∷ taken rs ≡ joined (map (stream R) out)) × All (Valid R) out
+          (bs ++ b ∷ taken rs ≡ joined (map (stream R) out)) × AllByRecursion (Valid R) out
       go ys true v new on again =
           let ih = again (new refl) in (
             sym (append_assoc bs (b ∷ []) (taken rs)) ∙ ap (λ (cs : List ℕ). cs ++ taken rs) v.1
@@ -172,7 +172,7 @@ module _ (R : Ranges) (law : Lawful R) where
   some_blocks : (xs : List ℕ) → Valid R xs → 0 < length (stream R xs)
   some_blocks xs v = omega (arith, (stream_shape R law xs v).long)
 
-  pub joined_unique : (xss yss : List (List ℕ)) → All (Valid R) xss → All (Valid R) yss →
+  pub joined_unique : (xss yss : List (List ℕ)) → AllByRecursion (Valid R) xss → AllByRecursion (Valid R) yss →
       joined (map (stream R) xss) ≡ joined (map (stream R) yss) → xss ≡ yss
   joined_unique [] [] v w e = refl
   joined_unique [] (ys ∷ yss) v w e =

@@ -1,6 +1,6 @@
 -- A reader takes a whole stream, and hands its recording over.
 use Rattle.std.proofs.Common.{◌≡◌, ℕ, zero, suc, ◌+◌, ◌-◌, ◌*◌, ◌/◌, ◌%◌, ◌<◌, ◌≤◌, Bool, true, false, not, ◌&&◌, ◌||◌, eqb, leb, List, [], ◌∷◌, ◌++◌, length, drop, Some, None, Ok, Option, sym, refl, ap, ◌∙◌, subst, ap₂, ⊎_elim, append_assoc, append-nil, mod-lt, div-add-mod', arith}
-use Rattle.std.specs.List.{AllByRecursion as All}
+use Rattle.std.specs.List.{AllByRecursion}
 use Rattle.schedule.specs.Ranges.{Ranges, Lawful, alphabet, end_mark}
 use Rattle.schedule.specs.Faults.{judged}
 use Rattle.schedule.proofs.Judged.{clear_judged}
@@ -62,7 +62,7 @@ module _ (R : Ranges) where
   single lead base (suc j) w e = absurd (omega arith)
 
   -- The blocks of group j, of the number w, after the carrier `before`.
-  module _ (j before w : ℕ) (below : All (λ x. x < R.base) (in_blocks R.lead R.base j w)) where
+  module _ (j before w : ℕ) (below : AllByRecursion (λ x. x < R.base) (in_blocks R.lead R.base j w)) where
     abbrev Answers : List ℕ → Bool → Type 0
     Answers ys end = (p : ℕ) → judged (group_rows R p j before w) (hands_over R (found R j before w)) ≡ Ok (ys, end)
 
@@ -85,7 +85,7 @@ module _ (R : Ranges) where
         two : 1 ≤ j + R.lead → Accepts R (record { count = n; half = First j before }) since (in_blocks R.lead R.base j w ++ rest) xs
         two h =
             let is = two_blocks R.lead R.base j w h in
-            let b = subst (All (λ x. x < R.base)) is below in
+            let b = subst (AllByRecursion (λ x. x < R.base)) is below in
             subst (λ (bs : List ℕ). Accepts R (record { count = n; half = First j before }) since (bs ++ rest) xs) (sym is)
             (first_of_two n since (w / R.base ∷ rest) xs h b.0
             (goes_on (record { count = n + 1; half = Second j before (w % R.base) }) (w / R.base) (Some w) ys since rest xs b.1.0 whole_is (a (n + 1)) (more (n + 1 + 1))))
@@ -93,7 +93,7 @@ module _ (R : Ranges) where
         one : j + R.lead < 1 → Accepts R (record { count = n; half = First j before }) since (in_blocks R.lead R.base j w ++ rest) xs
         one h =
             let is = single R.lead R.base j w (omega arith) in
-            let b = subst (All (λ x. x < R.base)) is below in
+            let b = subst (AllByRecursion (λ x. x < R.base)) is below in
             subst (λ (bs : List ℕ). Accepts R (record { count = n; half = First j before }) since (bs ++ rest) xs) (sym is)
             (goes_on (record { count = n; half = First j before }) w (Some w) ys since rest xs b.0
             (alone_at R.lead R.base j before w (omega arith)) (a n) (more (n + 1)))
@@ -102,7 +102,7 @@ module _ (R : Ranges) where
         Accepts R (record { count = n; half = First j before }) since (in_blocks R.lead R.base j w) (since ++ ys)
     group_ends n ys since h a =
         let is = two_blocks R.lead R.base j w h in
-        let b = subst (All (λ x. x < R.base)) is below in
+        let b = subst (AllByRecursion (λ x. x < R.base)) is below in
         subst (λ (bs : List ℕ). Accepts R (record { count = n; half = First j before }) since bs (since ++ ys)) (sym is)
         (first_of_two n since (w / R.base ∷ []) (since ++ ys) h b.0
         (ends_here (record { count = n + 1; half = Second j before (w % R.base) }) (w / R.base) w ys since b.1.0 whole_is (a (n + 1))))
@@ -264,13 +264,13 @@ module _ (R : Ranges) (law : Lawful R) where
       (through ss c 0 s t ys v (omega arith)))
 
   -- The blocks stand before the marks.
-  until_blocks : (xs ms : List ℕ) → All (λ x. x < R.base) xs → (rest : List ℕ) → ms ≡ m ∷ rest → until_mark m (xs ++ ms) ≡ xs
+  until_blocks : (xs ms : List ℕ) → AllByRecursion (λ x. x < R.base) xs → (rest : List ℕ) → ms ≡ m ∷ rest → until_mark m (xs ++ ms) ≡ xs
   until_blocks [] ms b rest e = ap (until_mark m) e ∙ (let a = is_eqb m m refl in rw a refl)
   until_blocks (x ∷ xs) ms b rest e =
       let a = not_eqb x m (λ q. omega (arith, b.0)) in
       rw a (ap (λ (ys : List ℕ). x ∷ ys) (until_blocks xs ms b.1 rest e))
 
-  until_marks : (xs : List ℕ) (n : ℕ) → All (λ x. x < R.base) xs → until_mark m (xs ++ marks R n) ≡ xs
+  until_marks : (xs : List ℕ) (n : ℕ) → AllByRecursion (λ x. x < R.base) xs → until_mark m (xs ++ marks R n) ≡ xs
   until_marks xs n b =
       let k = marked_as R law.lead_high n in
       let f = first_mark R law (marks R n) k.some k.marks_are in

@@ -1,6 +1,6 @@
 -- The laws of recordings and readers of one schedule, over all runs.
 use Rattle.std.specs.Prelude.{◌≡◌, ℕ, List, [], ◌∷◌, ◌++◌, map}
-use Rattle.std.specs.List.{AllByRecursion as All}
+use Rattle.std.specs.List.{AllByRecursion}
 use Rattle.schedule.specs.Ranges.{Ranges}
 use Rattle.writer.specs.Stream.{Valid, stream}
 use Rattle.writer.specs.Runs.{Call, Recorded, accepted, wrote}
@@ -18,16 +18,16 @@ joined (xs ∷ xss) = xs ++ joined xss
 -- accepted, and the recordings handed over are what those recordings accepted, in order.
 abbrev pub ReadsBack : Ranges → Type 0
 ReadsBack R =
-    (runs : List (List Call)) (replies : List Reply) → All (Recorded R) runs → Reads R started replies →
+    (runs : List (List Call)) (replies : List Reply) → AllByRecursion (Recorded R) runs → Reads R started replies →
     map request replies ≡ map take_it (joined (map wrote runs)) ++ stop_it ∷ [] →
-    All Accepted replies × (handed [] replies ≡ map accepted runs)
+    AllByRecursion Accepted replies × (handed [] replies ≡ map accepted runs)
 
 -- What a new reader accepted, up to its accepted stop, is the joined streams of the recordings that it handed over, all
 -- of them valid; and every other list of valid recordings has other joined streams.
 pub record OnlyStreams (R : Ranges) (replies : List Reply) : Type 0 where
   pub streams : taken replies ≡ joined (map (stream R) (handed [] replies))
-  pub valid : All (Valid R) (handed [] replies)
-  pub no_other : (others : List (List ℕ)) → All (Valid R) others → joined (map (stream R) others) ≡ taken replies → others ≡ handed [] replies
+  pub valid : AllByRecursion (Valid R) (handed [] replies)
+  pub no_other : (others : List (List ℕ)) → AllByRecursion (Valid R) others → joined (map (stream R) others) ≡ taken replies → others ≡ handed [] replies
 
 abbrev pub ReadsOnlyStreams : Ranges → Type 0
 ReadsOnlyStreams R = (replies : List Reply) → Reads R started replies → StoppedAtLast replies → OnlyStreams R replies

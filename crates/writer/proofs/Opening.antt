@@ -1,6 +1,6 @@
 -- A recording that has taken valid blocks is open: its spill and its waiting block are in range.
 use Rattle.std.proofs.Common.{◌≡◌, ℕ, zero, suc, ◌+◌, ◌-◌, ◌/◌, ◌<◌, ◌≤◌, List, [], ◌∷◌, ◌++◌, length, drop, sym, refl, ap, subst, zero-le, arith}
-use Rattle.std.specs.List.{AllByRecursion as All}
+use Rattle.std.specs.List.{AllByRecursion}
 use Rattle.std.proofs.lemmas.List.{length-append, length-drop}
 use Rattle.std.proofs.ByRecursion.{All-append, All-drop, All-weaker}
 use Rattle.schedule.specs.Ranges.{Ranges, Lawful, alphabet, longest}
@@ -15,7 +15,7 @@ drop_nil (suc l) = refl
 
 module _ (R : Ranges) (law : Lawful R) where
   abbrev Symbols : List ℕ → Type 0
-  Symbols = All (λ s. s < alphabet R)
+  Symbols = AllByRecursion (λ s. s < alphabet R)
 
   pub last_spill_below : (j y k : ℕ) (ss : List ℕ) → Symbols ss → y < R.spill j → k ≡ j + length ss / 2 → k ≤ R.steps →
       last_spill R j y ss < R.spill k
@@ -34,12 +34,12 @@ module _ (R : Ranges) (law : Lawful R) where
   pub first_below : (ss : List ℕ) → Symbols ss → first_spill R.lead ss < R.spill 0
   first_below = first_below_at R.lead refl
 
-  unpaired_below : (ss : List ℕ) → All (λ x. x < R.base) ss → unpaired ss < R.base
+  unpaired_below : (ss : List ℕ) → AllByRecursion (λ x. x < R.base) ss → unpaired ss < R.base
   unpaired_below [] b = omega (arith, law.base_low)
   unpaired_below (s ∷ []) b = b.0
   unpaired_below (s ∷ t ∷ ss) b = unpaired_below ss b.1.1
 
-  pub blocks_are_symbols : (blocks : List ℕ) → All (λ x. x < R.base) blocks → Symbols blocks
+  pub blocks_are_symbols : (blocks : List ℕ) → AllByRecursion (λ x. x < R.base) blocks → Symbols blocks
   blocks_are_symbols = All-weaker (λ x. x < R.base) (λ s. s < alphabet R) (λ x h. omega arith)
 
   pub open_from : (blocks : List ℕ) (h : Held) → Valid R blocks → Holds R blocks h → Open R blocks h
@@ -68,6 +68,6 @@ module _ (R : Ranges) (law : Lawful R) where
       go zero h = refl
       go (suc l) h = refl
 
-  pub valid_append : (blocks piece : List ℕ) → Valid R blocks → All (λ x. x < R.base) piece → length blocks + length piece ≤ longest R → Valid R (blocks ++ piece)
+  pub valid_append : (blocks piece : List ℕ) → Valid R blocks → AllByRecursion (λ x. x < R.base) piece → length blocks + length piece ≤ longest R → Valid R (blocks ++ piece)
   valid_append blocks piece valid below few =
       record { below = All-append (λ x. x < R.base) blocks piece valid.below below; few = omega (arith, length-append blocks piece) }

@@ -3,17 +3,17 @@ use Rattle.std.proofs.Common.{◌≡◌, ℕ, ◌+◌, ◌<◌, ◌≤◌, List,
 use Rattle.std.proofs.lemmas.Bool.Decides.{nat_tests, leb_tells}
 use Rattle.schedule.specs.Faults.{judged}
 use Rattle.schedule.proofs.Judged.{judged_clear}
-use Rattle.std.specs.List.{AllByRecursion as All}
+use Rattle.std.specs.List.{AllByRecursion}
 use Rattle.schedule.specs.Ranges.{Ranges, longest}
 use Rattle.writer.specs.Calls.{front_below, offer_writes, offer_rows}
 
 -- An offer that no row stands against.
 pub record Fine (R : Ranges) (count : ℕ) (piece : List ℕ) (room : ℕ) : Type 0 where
   pub fits : count + length piece ≤ longest R
-  pub below : All (λ x. x < R.base) piece
+  pub below : AllByRecursion (λ x. x < R.base) piece
   pub room_for : offer_writes R count (length piece) ≤ room
 
-all_below : (base : ℕ) (piece : List ℕ) → length piece ≤ front_below base piece → All (λ x. x < base) piece
+all_below : (base : ℕ) (piece : List ℕ) → length piece ≤ front_below base piece → AllByRecursion (λ x. x < base) piece
 all_below base [] h = tt
 all_below base (x ∷ xs) h =
     elim (leb_tells base x) [

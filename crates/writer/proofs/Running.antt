@@ -1,6 +1,6 @@
 -- Every list of calls has one run, and what a new recording accepts is what is valid.
 use Rattle.std.proofs.Common.{◌≡◌, ℕ, suc, ◌<◌, ◌≤◌, false, ltb, ◌⊎◌, List, [], ◌∷◌, ◌++◌, map, length, take, drop, replicate, Ok, Err, Result, sym, refl, ap, ◌∙◌, subst, ap₂, inl, inr, ⊎_elim, append-nil, arith}
-use Rattle.std.specs.List.{AllByRecursion as All}
+use Rattle.std.specs.List.{AllByRecursion}
 use Rattle.std.proofs.lemmas.List.{length-append, length-drop, length-replicate, take_at, drop_at, take-append-drop, append_cancel_left}
 use Rattle.std.proofs.lemmas.Bool.Decides.{nat_tests, leb_tells}
 use Rattle.schedule.specs.declared.fault.Fault.{Fault}
@@ -41,7 +41,7 @@ same_written n buffer one other front w v e =
     ∙ take-append-drop n other
 
 -- Where every block is below the base, none stops the count.
-front_all : (base : ℕ) (piece : List ℕ) → All (λ x. x < base) piece → front_below base piece ≡ length piece
+front_all : (base : ℕ) (piece : List ℕ) → AllByRecursion (λ x. x < base) piece → front_below base piece ≡ length piece
 front_all base [] b = refl
 front_all base (x ∷ xs) b =
     elim (leb_tells base x) [

@@ -1,7 +1,7 @@
 -- How long a stream is, and that its numbers are blocks.
 use Rattle.std.proofs.Common.{◌≡◌, ℕ, zero, suc, ◌+◌, ◌-◌, ◌*◌, ◌/◌, ◌%◌, ◌<◌, ◌≤◌, List, [], ◌∷◌, ◌++◌, length, get_or, drop, sym, refl, ap, ◌∙◌, subst, inl, inr, ⊎_elim, mul-le-mul_right, mod-lt, div-lt_iff_lt-mul, arith}
 use lib.Arith.{digits_lt}
-use Rattle.std.specs.List.{AllByRecursion as All}
+use Rattle.std.specs.List.{AllByRecursion}
 use Rattle.std.proofs.lemmas.List.{length-append, length-drop, get_or-append-add}
 use Rattle.std.proofs.ByRecursion.{All-append, All-drop, All-take}
 use Rattle.schedule.specs.Ranges.{Ranges, Lawful, alphabet, end_mark}
@@ -34,7 +34,7 @@ complete_length R h ss =
     first_length R h (first_spill R.lead ss) (drop R.lead ss) ∙ ap (λ (n : ℕ). 2 * (n / 2) + R.lead - 1) (length-drop R.lead ss)
 
 -- Two blocks of a number below B × B.
-in_blocks_below : (lead base j w : ℕ) → 1 ≤ base → (j + lead ≡ 0 → w < base) → w < base * base → All (λ x. x < base) (in_blocks lead base j w)
+in_blocks_below : (lead base j w : ℕ) → 1 ≤ base → (j + lead ≡ 0 → w < base) → w < base * base → AllByRecursion (λ x. x < base) (in_blocks lead base j w)
 in_blocks_below zero base zero w b h k = (h refl, tt)
 in_blocks_below (suc l) base zero w b h k = (mod-lt w b, ((div-lt_iff_lt-mul b).1 k, tt))
 in_blocks_below lead base (suc j) w b h k = (mod-lt w b, ((div-lt_iff_lt-mul b).1 k, tt))
@@ -46,7 +46,7 @@ two_blocks lead base (suc j) w h = refl
 
 module _ (R : Ranges) (law : Lawful R) where
   abbrev Below : List ℕ → Type 0
-  Below = All (λ x. x < R.base)
+  Below = AllByRecursion (λ x. x < R.base)
 
   -- The number of a group with carrier and spill in range.
   number_below : (j r y : ℕ) → r < R.carrier j → y < R.spill j → r * R.spill j + y < R.carrier j * R.spill j
@@ -77,7 +77,7 @@ module _ (R : Ranges) (law : Lawful R) where
       in_blocks_below R.lead R.base j (0 * R.spill j + y) (omega (arith, law.base_low)) (λ e. absurd (omega arith))
       (omega (arith, mul-le-mul_right R.base law.base_low))
 
-  closed_below : (j y : ℕ) (ss : List ℕ) → All (λ s. s < alphabet R) ss → length ss % 2 ≡ 0 → 2 * j + length ss ≤ 2 * R.steps →
+  closed_below : (j y : ℕ) (ss : List ℕ) → AllByRecursion (λ s. s < alphabet R) ss → length ss % 2 ≡ 0 → 2 * j + length ss ≤ 2 * R.steps →
       1 ≤ j + length ss + R.lead → y < R.spill j → Below (closed R j y ss)
   closed_below j y [] v e l h k = closing_below j y (omega arith) (omega arith) k
   closed_below j y (s ∷ []) v e l h k = absurd (omega arith)
@@ -89,12 +89,12 @@ module _ (R : Ranges) (law : Lawful R) where
       (spill_below R law j s t (omega arith) v.0 v.1.0))
 
   -- The symbols of a valid recording, and their count.
-  pub symbols_below : (blocks : List ℕ) → Valid R blocks → All (λ s. s < alphabet R) (symbols R blocks)
+  pub symbols_below : (blocks : List ℕ) → Valid R blocks → AllByRecursion (λ s. s < alphabet R) (symbols R blocks)
   symbols_below blocks v =
       let m = marked R law.lead_high (length blocks) in
       All-append (λ s. s < alphabet R) blocks (marks R (length blocks))
       (blocks_are_symbols R law blocks v.below)
-      (subst (All (λ s. s < alphabet R)) m.marks_are
+      (subst (AllByRecursion (λ s. s < alphabet R)) m.marks_are
       (All-take (λ s. s < alphabet R) (length (marks R (length blocks))) (end_mark R ∷ end_mark R ∷ []) (omega arith, (omega arith, tt))))
 
   pub stream_shape : (blocks : List ℕ) → Valid R blocks → StreamShape R blocks

@@ -1,7 +1,7 @@
 -- A stream tells its recording, and where it ends.
 use Rattle.std.proofs.Common.{◌≡◌, ℕ, zero, suc, ◌+◌, ◌*◌, ◌/◌, ◌%◌, ◌<◌, ◌≤◌, List, [], ◌∷◌, ◌++◌, length, get_or, take, drop, sym, refl, ap, ◌∙◌, ap₂, append_assoc, append-nil, div-add-mod', arith}
 use mathlib.Core.List.{append_cancel_left, head-eq_of_cons-eq, tail-eq_of_cons-eq}
-use Rattle.std.specs.List.{AllByRecursion as All}
+use Rattle.std.specs.List.{AllByRecursion}
 use Rattle.std.proofs.lemmas.List.{length-append}
 use Rattle.schedule.specs.Ranges.{Ranges, Lawful, alphabet, end_mark}
 use Rattle.writer.specs.Stream.{Valid, marks, symbols, first_spill, first_pass, in_blocks, group, closed, stream}
@@ -96,7 +96,7 @@ module _ (R : Ranges) (law : Lawful R) where
       (u.0, ap₂ (λ (n : ℕ) (ns : List ℕ). n ∷ ns) u.1 (ap₂ (λ (n : ℕ) (ns : List ℕ). n ∷ ns) u.2 more.1), more.2)
 
   abbrev Below : List ℕ → Type 0
-  Below = All (λ x. x < R.base)
+  Below = AllByRecursion (λ x. x < R.base)
 
   ended_pair : (s t : ℕ) (ss : List ℕ) → s < R.base → t < R.base → Ended R.base ss → Ended R.base (s ∷ t ∷ ss)
   ended_pair s t [] h k e = absurd e

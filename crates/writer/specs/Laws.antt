@@ -1,6 +1,6 @@
 -- The laws of the writer.
 use Rattle.std.specs.Prelude.{◌≡◌, ℕ, ◌+◌, ◌<◌, ◌≤◌, ◌⊎◌, ◌↔◌, List, ◌++◌, length, slice_index_or}
-use Rattle.std.specs.List.{AllByRecursion as All}
+use Rattle.std.specs.List.{AllByRecursion}
 use Rattle.schedule.specs.Ranges.{Ranges}
 use Rattle.writer.specs.Stream.{Valid, symbols, stream}
 use Rattle.writer.specs.Passes.{PassesTakenBack}
@@ -10,7 +10,7 @@ use Rattle.writer.specs.Runs.{Call, Recorded, accepted, wrote}
 pub record StreamShape (R : Ranges) (blocks : List ℕ) : Type 0 where
   pub long : length (stream R blocks) ≡ length (symbols R blocks) + 1
   pub two_or_three_more : (length (stream R blocks) ≡ length blocks + 2) ⊎ (length (stream R blocks) ≡ length blocks + 3)
-  pub below : All (λ x. x < R.base) (stream R blocks)
+  pub below : AllByRecursion (λ x. x < R.base) (stream R blocks)
   pub last : slice_index_or (stream R blocks) (length (symbols R blocks)) 0 ≤ 1
 
 abbrev pub Begins : List ℕ → List ℕ → Type 0

@@ -1,11 +1,11 @@
 -- The stream of a recording.
 use Rattle.std.specs.Prelude.{ℕ, zero, suc, ◌+◌, ◌-◌, ◌*◌, ◌/◌, ◌%◌, ◌<◌, ◌≤◌, List, [], ◌∷◌, ◌++◌, length, drop, slice_index}
-use Rattle.std.specs.List.{AllByRecursion as All}
+use Rattle.std.specs.List.{AllByRecursion}
 use Rattle.schedule.specs.Ranges.{Ranges, alphabet, end_mark, longest}
 
 -- A valid recording: every block below B, at most N of them.
 pub record Valid (R : Ranges) (blocks : List ℕ) : Type 0 where
-  pub below : All (λ x. x < R.base) blocks
+  pub below : AllByRecursion (λ x. x < R.base) blocks
   pub few : length blocks ≤ longest R
 
 -- The end marks of n blocks: a second follows if the count of symbols, less the lead, would otherwise be odd.

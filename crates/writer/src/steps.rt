@@ -1,6 +1,6 @@
 // The writer's steps: one symbol, a list of symbols, and what they need.
 ghost use Rattle.std.specs.Prelude.{◌≡◌, ℕ, ◌+◌, ◌-◌, ◌*◌, ◌^◌, ◌<◌, ◌≤◌, List, [], ◌∷◌, ◌++◌, length, take, drop, nat_lt};
-ghost use Rattle.std.specs.List.{AllByRecursion as All};
+ghost use Rattle.std.specs.List.{AllByRecursion};
 ghost use Rattle.schedule.specs.Faults.{says, judged};
 ghost use Rattle.schedule.specs.Ranges.{longest};
 ghost use Rattle.writer.specs.Stream.{marks, complete, stream};
@@ -90,7 +90,7 @@ pub(crate) fn run<S: Schedule>(
 ) -> (Held, usize)
     requires count { start.count + length symbols.now < 2 ^ 32 }
     requires sized { Sized start }
-    requires below { All (λ x. x ≤ 16777216) symbols.now }
+    requires below { AllByRecursion (λ x. x ≤ 16777216) symbols.now }
     requires room { offer_writes (S.ranges schedule.now) start.count (length symbols.now) ≤ length buffer.old }
     ensures count { result.0.count ≡ start.count + length symbols.now }
     ensures sized { Sized result.0 }
