@@ -33,7 +33,7 @@ sole width = fourfold (2 ^ width) 0 (sole_steps width)
 abbrev pub lose : ℕ → Ranges
 lose width = fourfold (2 ^ width) 1 (lose_steps width)
 
--- With one step more than these ranges have, that step breaks the last law.
+-- With one step more than these ranges have, that step breaks law 5: its pair does not fit.
 abbrev pub NoFurtherStep : Ranges → Type 0
 NoFurtherStep R =
     let more = fourfold R.base R.lead (suc R.steps) in

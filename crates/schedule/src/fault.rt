@@ -23,8 +23,8 @@ pub enum PieceFault {
     PackingTooShort(u64),
 }
 
-// 20 and 21: found as the second pass is taken back. The reader's place is the count of blocks that it accepted
-// since it was new or since its last end.
+// 20 and 21: found as the second pass is taken back. Place, of these and of 22 to 26: for a reader the count of blocks
+// that it accepted since it was new or since its last end, and for a lookup an index in the stream.
 #[derive(Clone, Copy, Debug)]
 pub enum SecondPassFault {
     // 20: a taken or looked-up block is B or more.
@@ -33,7 +33,7 @@ pub enum SecondPassFault {
     CarrierBeyondRange(u64),
 }
 
-// 22 and 23: found as the first pass is taken back. The place is the second pass's.
+// 22 and 23: found as the first pass is taken back.
 #[derive(Clone, Copy, Debug)]
 pub enum FirstPassFault {
     // 22: a pair's number is A × A or more.
@@ -42,7 +42,7 @@ pub enum FirstPassFault {
     MarkBeforeBlock(u64),
 }
 
-// 24 to 26: a stream does not end as it has to. The place is the second pass's.
+// 24 to 26: a stream does not end as it has to.
 #[derive(Clone, Copy, Debug)]
 pub enum ClosingFault {
     // 24: a mark is found, and the group's carrier is not 0.

@@ -1,4 +1,5 @@
-// Schedules and faults: the layer that everything else stands on.
+// Schedules and faults: the layer that everything else stands on. `interface` is what a schedule answers, `sole` and
+// `lose` are the two kinds at a `width`, and `fault` with its `text` is how every call refuses.
 #![tactic(auto)]
 
 pub mod fault;

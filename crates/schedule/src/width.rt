@@ -22,6 +22,7 @@ impl Width {
         }
     }
 
+    // How many bits a block has.
     pub fn bits(&self) -> u64
         ensures { result ≡ self.now.bits }
     {
