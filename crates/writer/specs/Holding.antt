@@ -34,6 +34,7 @@ pub record Open (R : Ranges) (blocks : List ℕ) (h : Held) : Type 0 where
   pub spill_below : h.spill < R.spill ((length blocks - R.lead) / 2)
   pub waiting_below : h.waiting < R.base
 
+-- What a new recording holds.
 abbrev pub opened : Held
 opened = record { count = 0; spill = 0; waiting = 0 }
 

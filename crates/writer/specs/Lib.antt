@@ -3,6 +3,6 @@ pub mod Passes
 pub mod Holding
 pub mod Calls
 pub mod Runs
+pub mod Lists
 pub mod Laws
 pub mod Worked
-pub mod Lists

@@ -50,5 +50,6 @@ closed R j y (s ∷ t ∷ ss) = group R j (first_pass R j s t).0 y ++ closed R (
 abbrev pub complete : Ranges → List ℕ → List ℕ
 complete R ss = groups R 0 (first_spill R.lead ss) (drop R.lead ss)
 
+-- The stream of a recording.
 abbrev pub stream : Ranges → List ℕ → List ℕ
 stream R blocks = closed R 0 (first_spill R.lead (symbols R blocks)) (drop R.lead (symbols R blocks))

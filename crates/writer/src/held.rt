@@ -1,4 +1,4 @@
-// What an open recording holds: the count of accepted blocks, the spill, and the block that waits for its partner, or 0.
+// What a recording holds: the count of its symbols so far, the spill, and the symbol that waits for its partner, or 0.
 #[derive(Clone, Copy)]
 pub struct Held {
     pub(crate) count: u64,

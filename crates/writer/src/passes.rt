@@ -1,4 +1,4 @@
-// The two passes, over any schedule. Beyond the last step, where no carrier range is, they answer small numbers.
+// The two passes, over any schedule. Beyond the last step, where there is no carrier range, the first answers 0 and 0.
 ghost use Rattle.std.specs.Prelude.{◌≡◌, ◌+◌, ◌*◌, ◌^◌, ◌<◌, ◌≤◌};
 ghost use Rattle.writer.specs.Stream.{first_pass, group};
 ghost use Rattle.writer.specs.Holding.{group_blocks};
@@ -10,6 +10,7 @@ use schedule::interface::{Schedule, alphabet};
 pub(crate) fn first_pass<S: Schedule>(schedule: &S, j: u64, s: u64, t: u64) -> (u64, u64)
     requires { (s ≤ 16777216) × (t ≤ 16777216) }
     ensures exact { j < (S.ranges schedule.now).steps → result ≡ first_pass (S.ranges schedule.now) j s t }
+    ensures beyond { (S.ranges schedule.now).steps ≤ j → result ≡ (0, 0) }
     ensures small { (result.0 ≤ 16777216) × (result.1 < 2 ^ 48) }
 {
     let z = t * alphabet(schedule) + s;

@@ -1,4 +1,4 @@
-// An open recording: offered pieces, then closed.
+// A recording: opened, offered pieces, then closed.
 ghost use Rattle.std.specs.Prelude.{◌≡◌, [], Ok, Err, MatchResult};
 ghost use Rattle.writer.specs.Holding.{Open, Small, opened};
 ghost use Rattle.writer.specs.Calls.{Offers, Closes};
@@ -10,6 +10,7 @@ use crate::steps::{check_close, check_offer, finish, run};
 use schedule::fault::Fault;
 use schedule::interface::Schedule;
 
+// An open recording on a schedule.
 #[derive(Drop)]
 pub struct Recording<S: Schedule> {
     schedule: S,
