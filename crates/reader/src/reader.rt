@@ -2,6 +2,7 @@
 ghost use Rattle.std.specs.Prelude.{◌≡◌, ℕ, ◌+◌, ◌<◌, Ok, Err, MatchResult};
 ghost use Rattle.schedule.specs.Faults.{says, judged};
 ghost use Rattle.writer.specs.Passes.{second_pass_back};
+ghost use Rattle.reader.specs.Back.{PassesAnswer};
 ghost use Rattle.reader.specs.Reading.{Small, InRange, started, step_of, before_of, brought, found, hands_over, pair_rows_before, closing_rows, group_rows};
 ghost use Rattle.reader.specs.Calls.{says_brought, after_group, Takes, Stops};
 
@@ -96,6 +97,7 @@ fn at_start() -> Reading
     }
 }
 
+// A reader on a schedule.
 #[derive(Drop)]
 pub struct Reader<S: Schedule> {
     schedule: S,
@@ -108,6 +110,7 @@ impl<S: Schedule> Reader<S> {
     pub fn new(schedule: S) -> Reader<S>
         ensures schedule { result.schedule ≡ schedule }
         ensures started { (result.reading ≡ started) × InRange (S.ranges schedule) result.reading }
+        ensures passes { PassesAnswer (S.ranges schedule) }
     {
         Reader {
             schedule,
