@@ -1,6 +1,6 @@
 -- All the laws over runs.
 use Rattle.schedule.specs.Ranges.{Ranges, Lawful}
-use Rattle.writer.proofs.Recorded.{distinct_beginnings}
+use Rattle.writer.proofs.Recorded.{writes_streams, distinct_beginnings}
 use Rattle.writer.proofs.Running.{every_list_records, valid_is_accepted}
 use Rattle.lane.specs.Laws.{StreamsAndRecordingsAgree}
 use Rattle.lane.proofs.Back.{reads_back}
@@ -10,6 +10,7 @@ use Rattle.lane.proofs.Replying.{every_list_reads}
 pub agree : (R : Ranges) → Lawful R → StreamsAndRecordingsAgree R
 agree R law =
     record {
+      writes_streams = writes_streams R law;
       distinct_beginnings = distinct_beginnings R law;
       reads_back = reads_back R law;
       reads_only_streams = reads_only_streams R law;

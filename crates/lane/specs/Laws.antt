@@ -4,12 +4,13 @@ use Rattle.std.specs.List.{AllByRecursion}
 use Rattle.schedule.specs.Ranges.{Ranges}
 use Rattle.writer.specs.Stream.{Valid, stream}
 use Rattle.writer.specs.Runs.{Call, Recorded, accepted, wrote}
-use Rattle.writer.specs.Laws.{DistinctBeginnings}
+use Rattle.writer.specs.Laws.{WritesStreams, DistinctBeginnings}
 use Rattle.writer.specs.Lists.{EveryListRecords, ValidIsAccepted}
 use Rattle.reader.specs.Reading.{started}
 use Rattle.lane.specs.Reads.{Reply, Request, request, Reads, StoppedAtLast, Accepted, taken, handed, Replies}
 use Rattle.lane.specs.Reads.Request.{take_it, stop_it}
 
+-- Lists, one behind another.
 abbrev pub joined : List (List ℕ) → List ℕ
 joined [] = []
 joined (xs ∷ xss) = xs ++ joined xss
@@ -39,6 +40,7 @@ EveryListReads R =
     × ((one other : List Reply) → Replies R requests one → Replies R requests other → one ≡ other)
 
 pub record StreamsAndRecordingsAgree (R : Ranges) : Type 0 where
+  pub writes_streams : WritesStreams R
   pub distinct_beginnings : DistinctBeginnings R
   pub reads_back : ReadsBack R
   pub reads_only_streams : ReadsOnlyStreams R
