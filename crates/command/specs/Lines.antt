@@ -1,7 +1,13 @@
--- What a line of `reel` says: a letter, and numbers, each with one space before it.
-use Rattle.std.specs.Prelude.{◌≡◌, ℕ, ◌+◌, ◌-◌, ◌*◌, ◌≤◌, List, [], ◌∷◌, ◌++◌, length, Some, None, vec_items, Option, ◌≢◌}
+-- The lines of `reel`'s input, and what a line says: a letter, and numbers, each with one space before it.
+use Rattle.std.specs.Prelude.{◌≡◌, ℕ, ◌+◌, ◌-◌, ◌*◌, ◌<◌, ◌≤◌, Bool, true, false, ◌⊎◌, List, [], ◌∷◌, ◌++◌, length, Some, None, vec_items, Option, ◌≢◌}
 use Rattle.std.specs.List.{AllByRecursion}
 use Rattle.command.specs.declared.Line.{Line}
+use Rattle.command.specs.declared.Next.{Next}
+use Rattle.command.specs.declared.Next.TheVariants.{Whole, CutOff, Nothing}
+
+-- How many bytes of the input count.
+abbrev pub most : ℕ
+most = 32768
 
 abbrev pub space : ℕ
 space = 32
@@ -43,3 +49,15 @@ given (Some l) = Some (l.letter, vec_items l.numbers)
 pub record Cut (text line rest : List ℕ) : Type 0 where
   pub whole : text ≡ line ++ line_feed ∷ rest
   pub one_line : AllByRecursion (λ c. c ≢ line_feed) line
+
+-- No line feed stands in these bytes.
+abbrev pub OneLine : List ℕ → Type 0
+OneLine bytes = AllByRecursion (λ c. c ≢ line_feed) bytes
+
+-- What comes next in a text: its first line; at its end the last line, which needs no line feed unless it was cut off;
+-- and nothing where nothing is left.
+abbrev pub Comes : Bool → List ℕ → Next → Type 0
+Comes cut text (Whole line rest) =
+    Cut text line.now rest.now ⊎ (OneLine text × (0 < length text) × (cut ≡ false) × (line.now ≡ text) × (rest.now ≡ []))
+Comes cut text CutOff = OneLine text × (0 < length text) × (cut ≡ true)
+Comes cut text Nothing = text ≡ []

@@ -1,12 +1,32 @@
-// The lines of `reel`.
+// The input of `reel`: what counts of it, its lines, and what a line says.
 #![tactic(auto)]
 
-ghost use Rattle.std.specs.Prelude.{◌≡◌, ℕ, ◌<◌, ◌≤◌, ◌↔◌, List, ◌∷◌, length, IfSome, IfOk, Some, vec_items, MatchOption, ◌≢◌, slice_index};
+ghost use Rattle.std.specs.Prelude.{◌≡◌, ℕ, ◌<◌, ◌≤◌, ◌↔◌, List, ◌∷◌, length, take, IfSome, IfOk, Some, vec_items, MatchOption, ◌≢◌, nat_lt, slice_index};
 ghost use Rattle.std.specs.Option.{option_map};
 ghost use Rattle.std.specs.List.{AllByRecursion};
-ghost use Rattle.command.specs.Lines.{Digit, Fields, Says, Cut, given, value_after, space, line_feed};
+ghost use Rattle.command.specs.Lines.{Digit, Fields, Says, Cut, Comes, given, value_after, space, line_feed, most};
 
 use std::alloc::{AllocError, Global};
+
+const MOST: usize = 32768;
+
+// How many bytes of the input count.
+pub fn limit() -> usize
+    ensures { result ≡ most }
+{
+    MOST
+}
+
+// The bytes of an input that count, and whether it was cut off.
+pub fn counted(input: &[u8]) -> (&[u8], bool)
+    ensures { (result.0.now ≡ take most input.now) × (result.1 ≡ nat_lt most (length input.now)) }
+{
+    if input.len() > MOST {
+        (&input[0..MOST], true)
+    } else {
+        (input, false)
+    }
+}
 
 // A line's letter, and its numbers.
 #[derive(Drop)]
@@ -25,6 +45,26 @@ pub fn first_line(text: &[u8]) -> Option<(&[u8], &[u8])>
         }
     }
     None
+}
+
+// What comes next in a text: a line and what stands behind it, a line that was cut off, or nothing.
+#[derive(Drop)]
+pub enum Next<'a> {
+    Whole(&'a [u8], &'a [u8]),
+    CutOff,
+    Nothing,
+}
+
+// What comes next in a text. Only a line feed ends a line; the last line needs none, unless it was cut off.
+pub fn next_line(text: &[u8], cut: bool) -> Next<'_>
+    ensures { Comes cut text.now result }
+{
+    match first_line(text) {
+        Some((line, rest)) => Next::Whole(line, rest),
+        None if text.is_empty() => Next::Nothing,
+        None if cut => Next::CutOff,
+        None => Next::Whole(text, &[]),
+    }
 }
 
 // How many digits lead the text, nine at most.

@@ -1,6 +1,7 @@
 // Reads lines from standard input, and acts on each by its letter. docs/REEL.md has the lines.
 #![tactic(auto)]
 
+use command::Next;
 use lane::{longest_recording, open_lane};
 use reader::reader::Reader;
 use reader::reading::Brought;
@@ -11,9 +12,6 @@ use schedule::sole::Sole;
 use std::io;
 use std::io::Read;
 use writer::recording::Recording;
-
-// How many bytes of standard input count.
-const MOST: usize = 32768;
 
 // An open recording and a reader on one schedule.
 #[derive(Drop)]
@@ -213,26 +211,27 @@ fn read_line(rt: &HostRuntime, state: State, text: &[u8]) -> io::Result<State> {
 }
 
 fn main(rt: HostRuntime) -> io::Result<()> {
+    let limit = command::limit();
     let mut input = Vec::new(rt.alloc());
-    let _ = rt.stdin().take(MOST as u64 + 1).read_to_end(&mut input)?;
-    let cut = input.len() > MOST;
-    input.truncate(MOST);
+    let _ = rt.stdin().take(limit as u64 + 1).read_to_end(&mut input)?;
+    let (mut text, cut) = command::counted(&input);
     let mut state = State::Nothing;
-    let mut text = input.as_slice();
-    while let Some((line, rest)) = command::first_line(text) {
-        state = read_line(&rt, state, line)?;
-        text = rest;
-    }
-    if !text.is_empty() {
-        if cut {
-            unknown(&rt)?;
-        } else {
-            state = read_line(&rt, state, text)?;
+    loop {
+        match command::next_line(text, cut) {
+            Next::Whole(line, rest) => {
+                state = read_line(&rt, state, line)?;
+                text = rest;
+            }
+            Next::CutOff => {
+                unknown(&rt)?;
+                break;
+            }
+            Next::Nothing => break,
         }
     }
     drop(state);
     if cut {
-        eprintln!(rt; "reel: only the first {MOST} bytes count")?;
+        eprintln!(rt; "reel: only the first {limit} bytes count")?;
     }
     Ok(())
 }
