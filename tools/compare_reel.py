@@ -1,5 +1,5 @@
 #!/usr/bin/env python3
-"""Runs random scripts through target/bin/reel and tools/reel_reference.py, and prints how many came out the same.
+"""Runs random scripts through crates/reel/out/reel and tools/reel_reference.py, and prints how many came out the same.
 Arguments: how many scripts (600), and the seed of the first (1)."""
 
 import os
@@ -11,7 +11,7 @@ sys.dont_write_bytecode = True
 from reference import STEPS, Schedule, stream
 
 ROOT = os.path.dirname(os.path.dirname(os.path.abspath(__file__)))
-PROGRAMS = [[os.path.join(ROOT, 'target/bin/reel')], [sys.executable, os.path.join(ROOT, 'tools/reel_reference.py')]]
+PROGRAMS = [[os.path.join(ROOT, 'crates/reel/out/reel')], [sys.executable, os.path.join(ROOT, 'tools/reel_reference.py')]]
 WIDTHS = (5, 8, 16, 24)
 ODD = [b'', b' ', b'?', b'5', b'O1', b'OO 1', b'T 12 x', b'O 1 ', b'O  1', b' O 1', b'C 1', b'E 1', b'S', b'S 5 5', b'L +5',
        b'T -1', b'T\t1', b'E\r', b'C\0', b'\0', b'O \xc3\xa9', b'\xff 1', b'T 1234567890', b'o 1', b'X 1', b'T 0000000001']
