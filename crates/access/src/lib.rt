@@ -49,7 +49,7 @@ fn later<S: Schedule>(schedule: &S, part: &[u64]) -> u64
 
 // The pair j, from the blocks of groups j and j + 1. Refuses with 21, 22 or 23.
 fn pair_in<S: Schedule>(schedule: &S, j: u64, part: &[u64], first: u64) -> Result<(u64, u64), Fault>
-    requires size { (3 ≤ length part.now) × ((length part.now ≤ 4) × ((first < 2 ^ 20) × (j < 2 ^ 20))) }
+    requires size { (3 ≤ length part.now) × (length part.now ≤ 4) × (first < 2 ^ 20) × (j < 2 ^ 20) }
     requires below { (k : ℕ) → k < length part.now → slice_index part.now k < (S.ranges schedule.now).base }
     ensures { says result ≡ judged (groups_rows (S.ranges schedule.now) j first part.now) (pair_of (S.ranges schedule.now) (pair_in (S.ranges schedule.now) j part.now)) }
 {
@@ -66,7 +66,7 @@ fn pair_checked<S: Schedule>(
     part: &[u64],
     first: u64,
 ) -> Result<(u64, u64), Fault>
-    requires { (3 ≤ length part.now) × ((length part.now ≤ 4) × ((first < 2 ^ 20) × (j < 2 ^ 20))) }
+    requires { (3 ≤ length part.now) × (length part.now ≤ 4) × (first < 2 ^ 20) × (j < 2 ^ 20) }
     ensures { says result ≡ judged (large_rows (S.ranges schedule.now) first part.now ++ groups_rows (S.ranges schedule.now) j first part.now) (pair_of (S.ranges schedule.now) (pair_in (S.ranges schedule.now) j part.now)) }
 {
     check_below(schedule, part, first)?;
@@ -110,7 +110,7 @@ fn look_part<S: Schedule>(
     first: u64,
 ) -> Result<u64, Fault>
     requires place { (S.ranges schedule.now).lead < p }
-    requires size { (3 ≤ length part.now) × ((length part.now ≤ 4) × ((first < 2 ^ 20) × (j < 2 ^ 20))) }
+    requires size { (3 ≤ length part.now) × (length part.now ≤ 4) × (first < 2 ^ 20) × (j < 2 ^ 20) }
     ensures { says result ≡ judged (part_rows (S.ranges schedule.now) p j first part.now) (part_symbol (S.ranges schedule.now) p j part.now) }
 {
     let (s, t) = pair_checked(schedule, j, part, first)?;
@@ -120,7 +120,7 @@ fn look_part<S: Schedule>(
 
 // The block at place p, in pair j.
 fn look_pair<S: Schedule>(schedule: &S, stream: &[u64], p: u64, j: u64) -> Result<u64, Fault>
-    requires { ((S.ranges schedule.now).lead < p) × ((p ≤ (S.ranges schedule.now).lead + 2 * (S.ranges schedule.now).steps) × (j < 2 ^ 18)) }
+    requires { ((S.ranges schedule.now).lead < p) × (p ≤ (S.ranges schedule.now).lead + 2 * (S.ranges schedule.now).steps) × (j < 2 ^ 18) }
     ensures { says result ≡ judged (pair_place_rows (S.ranges schedule.now) stream.now p j) (pair_symbol (S.ranges schedule.now) stream.now p j) }
 {
     let first = start(schedule, j);

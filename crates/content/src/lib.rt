@@ -39,7 +39,7 @@ fn block_at(size: usize, bytes: &[u8], i: usize) -> u64
 
 // Writes the packed blocks at the buffer's front, which has room for them.
 fn fill(size: usize, bytes: &[u8], count: usize, buffer: &mut [u64])
-    requires { (1 ≤ size) × ((size ≤ 3) × ((count ≡ blocks_of size (length bytes.now)) × ((count ≤ length buffer.old) × (length bytes.now + 2 < 2 ^ 64)))) }
+    requires { (1 ≤ size) × (size ≤ 3) × (count ≡ blocks_of size (length bytes.now)) × (count ≤ length buffer.old) × (length bytes.now + 2 < 2 ^ 64) }
     ensures packed { Packed size count bytes.now buffer.old buffer.new }
     ensures below { (k : ℕ) → k < count → slice_index buffer.new k < 256 ^ size }
 {

@@ -1,4 +1,5 @@
--- SOLE and LOSE keep the laws at every width.
+-- SOLE and LOSE keep the laws at every width. These are proofs, which nobody has to believe; they stand here since an
+-- implementation can give only a lemma of specs/ as the proof of a law.
 use Rattle.std.specs.Prelude.{◌≡◌, ℕ, suc, ◌+◌, ◌-◌, ◌*◌, ◌≤◌, true, ◌⊎◌}
 use Rattle.std.proofs.Common.{sym, inl, inr, lit≤, mul-le-mul, arith}
 use Rattle.std.proofs.Math.Path.{subst}

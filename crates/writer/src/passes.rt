@@ -23,7 +23,7 @@ pub(crate) fn first_pass<S: Schedule>(schedule: &S, j: u64, s: u64, t: u64) -> (
 
 // The second pass on group j: its blocks.
 pub(crate) fn second_pass<S: Schedule>(schedule: &S, j: u64, carrier: u64, spill: u64) -> Group
-    requires { (j < 2 ^ 32) × ((carrier ≤ 16777216) × (spill < 2 ^ 48)) }
+    requires { (j < 2 ^ 32) × (carrier ≤ 16777216) × (spill < 2 ^ 48) }
     ensures { group_blocks result ≡ group (S.ranges schedule.now) j carrier spill }
 {
     let w = carrier * schedule.spill(j) + spill;
