@@ -10,7 +10,7 @@ second_pass-closing-requires g c =
     let R = g.S.Schedule.ranges c.args.schedule.now in
     let law = g.met.S.Schedule.lawful c.args.schedule.now in
     let m : Marked R c.args.held.count (marks R c.args.held.count) = marked R law.lead_high c.args.held.count in
-    (omega (arith, m.few), (omega arith, c.take_marks-at.ensures.sized.0))
+    (omega (arith, m.few), omega arith, c.take_marks-at.ensures.sized.0)
 
 pub put-requires : goal.put-requires
 put-requires g c =
