@@ -1,3 +1,4 @@
+pub mod Fronts
 pub mod Placing
 pub mod Symbols
 pub mod Middle

@@ -1,18 +1,18 @@
 -- The groups in the middle of a stream.
 use Rattle.std.proofs.Common.{◌≡◌, ℕ, zero, suc, ◌+◌, ◌-◌, ◌*◌, ◌/◌, ◌%◌, ◌<◌, ◌≤◌, List, [], ◌∷◌, ◌++◌, length, take, sym, refl, ap, ◌∙◌, inl, inr, append_assoc, append-nil, mod-lt, div-add-mod', arith}
-use Rattle.std.proofs.lemmas.Bool.{cases_lt}
 use Rattle.std.proofs.lemmas.List.{length-append, take_at, drop_at}
 use Rattle.schedule.specs.Ranges.{Ranges, Lawful}
+use Rattle.schedule.proofs.Sizes.{split}
 use Rattle.writer.specs.Stream.{first_pass, in_blocks, group, groups, closed}
 use Rattle.writer.specs.Holding.{last_spill}
 use Rattle.writer.proofs.Numbers.{group_length}
 use Rattle.writer.proofs.Shape.{first_length}
 use Rattle.reader.specs.Back.{limit}
-use Rattle.reader.proofs.Limits.{below_limit, zero_below_limit}
+use Rattle.lane.proofs.Through.{below_limit, zero_below_limit}
 use Rattle.access.specs.Lookup.{start, part, earlier, later}
 
 -- The groups of the pairs before, and then those from group k on.
-closed_append : (R : Ranges) (j k y : ℕ) (xs zs : List ℕ) → length xs ≡ 2 * (k - j) → j ≤ k →
+pub closed_append : (R : Ranges) (j k y : ℕ) (xs zs : List ℕ) → length xs ≡ 2 * (k - j) → j ≤ k →
     closed R j y (xs ++ zs) ≡ groups R j y xs ++ closed R k (last_spill R j y xs) zs
 closed_append R j k y [] zs e h = ap (λ (i : ℕ). closed R i y zs) (omega arith)
 closed_append R j k y (x ∷ []) zs e h = absurd (omega arith)
@@ -56,7 +56,7 @@ two_long : (R : Ranges) → R.lead ≤ 1 → (j w w' : ℕ) →
 two_long R h j w w' =
     let a = group_length R.lead R.base j w in
     let all = length-append (in_blocks R.lead R.base j w) (in_blocks R.lead R.base (suc j) w') in
-    elim (cases_lt (j + R.lead) 1) [ inl k ↦ omega (arith, a.0 (omega arith)) | inr k ↦ omega (arith, a.1 k) ]
+    elim (split (j + R.lead) 1) [ inl k ↦ omega (arith, a.0 (omega arith)) | inr k ↦ omega (arith, a.1 k) ]
 
 -- The part that groups i and i + 1 are, where the pair i is (s, t) and the symbols xs stand before it.
 module _ (R : Ranges) (law : Lawful R) (i y s t : ℕ) (xs rest : List ℕ) (long : length xs ≡ 2 * i) (fits : 2 * i + length rest + 2 ≤ 2 * R.steps) where
@@ -78,7 +78,7 @@ module _ (R : Ranges) (law : Lawful R) (i y s t : ℕ) (xs rest : List ℕ) (lon
   abbrev w' : ℕ
   w' = head.carrier * R.spill (suc i) + next
 
-  pair_part : part R (closed R 0 y (xs ++ s ∷ t ∷ rest)) i ≡ in_blocks R.lead R.base i w ++ (w' % R.base) ∷ (w' / R.base) ∷ []
+  pub pair_part : part R (closed R 0 y (xs ++ s ∷ t ∷ rest)) i ≡ in_blocks R.lead R.base i w ++ (w' % R.base) ∷ (w' / R.base) ∷ []
   pair_part =
       let front = first_length R law.lead_high y xs in
       let two = in_blocks R.lead R.base i w ++ in_blocks R.lead R.base (suc i) w' in

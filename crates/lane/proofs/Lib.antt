@@ -1,3 +1,4 @@
+pub mod Extending
 pub mod Inside
 pub mod Only
 pub mod Through

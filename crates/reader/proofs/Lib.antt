@@ -1,4 +1,3 @@
-pub mod Naming
-pub mod Limits
+pub mod Tests
 pub mod Pairs
 pub mod Taking

@@ -1,18 +1,18 @@
 -- What one more symbol makes of the groups, the last spill and the waiting symbol.
-use Rattle.std.proofs.Common.{◌≡◌, ℕ, zero, suc, ◌+◌, ◌-◌, ◌*◌, ◌/◌, ◌%◌, ◌≤◌, List, [], ◌∷◌, ◌++◌, length, drop, sym, refl, ap, ◌∙◌, subst, append_assoc, append-nil, arith, length-append}
+use Rattle.std.proofs.Common.{◌≡◌, ℕ, zero, suc, ◌+◌, ◌-◌, ◌/◌, ◌%◌, ◌≤◌, List, [], ◌∷◌, ◌++◌, length, drop, sym, refl, ap, ◌∙◌, subst, append_assoc, append-nil, arith, length-append}
 use Rattle.std.proofs.lemmas.List.{length-drop, drop-append-le, drop-drop}
 use Rattle.schedule.specs.Ranges.{Ranges}
 use Rattle.writer.specs.Stream.{first_spill, first_pass, group, groups, complete}
-use Rattle.writer.specs.Holding.{last_spill, unpaired, spill_left, Holds, Grows}
+use Rattle.writer.specs.Holding.{last_spill, unpaired, Holds, Grows}
 use Rattle.writer.specs.declared.held.Held.{Held}
 
 -- A symbol that waits.
-record Waits (R : Ranges) (j y : ℕ) (ss : List ℕ) (x : ℕ) : Type 0 where
-  groups_stay : groups R j y (ss ++ x ∷ []) ≡ groups R j y ss
-  spill_stays : last_spill R j y (ss ++ x ∷ []) ≡ last_spill R j y ss
-  waits : unpaired (ss ++ x ∷ []) ≡ x
+pub record Waits (R : Ranges) (j y : ℕ) (ss : List ℕ) (x : ℕ) : Type 0 where
+  pub groups_stay : groups R j y (ss ++ x ∷ []) ≡ groups R j y ss
+  pub spill_stays : last_spill R j y (ss ++ x ∷ []) ≡ last_spill R j y ss
+  pub waits : unpaired (ss ++ x ∷ []) ≡ x
 
-waits : (R : Ranges) (j y : ℕ) (ss : List ℕ) (x : ℕ) → length ss % 2 ≡ 0 → Waits R j y ss x
+pub waits : (R : Ranges) (j y : ℕ) (ss : List ℕ) (x : ℕ) → length ss % 2 ≡ 0 → Waits R j y ss x
 waits R j y [] x e = record { groups_stay = refl; spill_stays = refl; waits = refl }
 waits R j y (s ∷ []) x e = absurd (omega arith)
 waits R j y (s ∷ t ∷ ss) x e =
@@ -24,13 +24,13 @@ waits R j y (s ∷ t ∷ ss) x e =
     }
 
 -- A symbol that joins the waiting one in pair k.
-record Joins (R : Ranges) (j k y : ℕ) (ss : List ℕ) (x : ℕ) : Type 0 where
-  groups_grow :
+pub record Joins (R : Ranges) (j k y : ℕ) (ss : List ℕ) (x : ℕ) : Type 0 where
+  pub groups_grow :
       groups R j y (ss ++ x ∷ []) ≡ groups R j y ss ++ group R k (first_pass R k (unpaired ss) x).0 (last_spill R j y ss)
-  new_spill : last_spill R j y (ss ++ x ∷ []) ≡ (first_pass R k (unpaired ss) x).1
-  none_waits : unpaired (ss ++ x ∷ []) ≡ 0
+  pub new_spill : last_spill R j y (ss ++ x ∷ []) ≡ (first_pass R k (unpaired ss) x).1
+  pub none_waits : unpaired (ss ++ x ∷ []) ≡ 0
 
-joins : (R : Ranges) (j k y : ℕ) (ss : List ℕ) (x : ℕ) → length ss % 2 ≡ 1 → k ≡ j + length ss / 2 → Joins R j k y ss x
+pub joins : (R : Ranges) (j k y : ℕ) (ss : List ℕ) (x : ℕ) → length ss % 2 ≡ 1 → k ≡ j + length ss / 2 → Joins R j k y ss x
 joins R j k y [] x e f = absurd (omega arith)
 joins R j k y (s ∷ []) x e f =
     subst (λ (i : ℕ). Joins R j i y (s ∷ []) x) (omega arith)
@@ -44,7 +44,7 @@ joins R j k y (s ∷ t ∷ ss) x e f =
       none_waits = more.none_waits;
     }
 
-same_first : (l : ℕ) (ss new : List ℕ) → l ≤ length ss → first_spill l (ss ++ new) ≡ first_spill l ss
+pub same_first : (l : ℕ) (ss new : List ℕ) → l ≤ length ss → first_spill l (ss ++ new) ≡ first_spill l ss
 same_first zero ss new h = refl
 same_first (suc l) [] new h = absurd (omega arith)
 same_first (suc l) (s ∷ ss) new h = refl
@@ -107,19 +107,8 @@ pub grows_none : (R : Ranges) (ss : List ℕ) (h : Held) → Holds R ss h → Gr
 grows_none R ss h holds =
     record { holds = rw append-nil holds; writes = ap (complete R) (append-nil ss) ∙ sym (append-nil (complete R ss)) }
 
--- Pair i, of two symbols.
-pub pair_grows : (R : Ranges) (ss : List ℕ) (i s t : ℕ) → length ss ≡ 2 * i + R.lead →
-    Grows R ss (s ∷ t ∷ []) (record { count = length ss + 1 + 1; spill = (first_pass R i s t).1; waiting = 0 })
-    (group R i (first_pass R i s t).0 (spill_left R ss))
-pair_grows R ss i s t long =
-    let h : Held = record { count = length ss; spill = spill_left R ss; waiting = unpaired (drop R.lead ss) } in
-    let one = held_waits R ss h (record { count = refl; spill = refl; waiting = refl }) s (omega arith) (omega arith) in
-    grows_on R ss (s ∷ []) (t ∷ []) _ _ [] _ one
-    (held_joins R (ss ++ s ∷ []) _ one.holds t (omega arith) (omega arith) i (omega arith) _ refl _ refl)
-
 -- What stands behind a place also stands behind a later one.
 pub behind_later : (b b' : List ℕ) (m n : ℕ) → m ≤ n → drop m b ≡ drop m b' → drop n b ≡ drop n b'
 behind_later b b' m n h e =
     let k : m + (n - m) ≡ n = omega arith in
-    ap (λ (i : ℕ). drop i b) (sym k) ∙ sym (drop-drop (n - m) m b) ∙ ap (drop (n - m)) e ∙ drop-drop (n - m) m b'
-    ∙ ap (λ (i : ℕ). drop i b') k
+    ap (λ (i : ℕ). drop i b) (sym k) ∙ sym (drop-drop (n - m) m b) ∙ ap (drop (n - m)) e ∙ drop-drop (n - m) m b' ∙ ap (λ (i : ℕ). drop i b') k

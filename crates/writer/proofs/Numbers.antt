@@ -1,7 +1,7 @@
 -- The sizes of the numbers that the passes make.
 use Rattle.std.proofs.Common.{◌≡◌, ℕ, zero, suc, ◌+◌, ◌-◌, ◌*◌, ◌/◌, ◌%◌, ◌^◌, ◌<◌, ◌≤◌, length, refl, inl, inr, mul-le-mul_right, mul-le-mul, arith}
-use Rattle.std.proofs.lemmas.Bool.{cases_lt}
 use Rattle.schedule.specs.Ranges.{Ranges, Lawful, alphabet}
+use Rattle.schedule.proofs.Sizes.{split}
 use Rattle.writer.specs.Stream.{in_blocks}
 
 pub pair_size : (R : Ranges) → Lawful R → (s t : ℕ) → s ≤ 16777216 → t ≤ 16777216 → t * alphabet R + s < 2 ^ 49
@@ -25,5 +25,4 @@ group_length lead base (suc j) w = (λ e. absurd (omega arith), λ h. refl)
 pub due_grows : (lead n length : ℕ) → lead ≤ 1 → lead ≤ n → (n - lead) % 2 ≡ 1 →
     ((n - lead) / 2 + lead ≡ 0 → length ≡ 1) × (1 ≤ (n - lead) / 2 + lead → length ≡ 2) →
     length + (2 * ((n - lead) / 2) + lead - 1) ≡ 2 * ((n + 1 - lead) / 2) + lead - 1
-due_grows lead n length h l odd long =
-    elim (cases_lt ((n - lead) / 2 + lead) 1) [ inl k ↦ omega (arith, long.0 (omega arith)) | inr k ↦ omega (arith, long.1 k) ]
+due_grows lead n length h l odd long = elim (split ((n - lead) / 2 + lead) 1) [ inl k ↦ omega (arith, long.0 (omega arith)) | inr k ↦ omega (arith, long.1 k) ]

@@ -1,8 +1,8 @@
 -- What symbols make of what a recording holds, and what they write: both go by what is held alone.
-use Rattle.std.proofs.Common.{◌≡◌, ℕ, ◌+◌, ◌-◌, ◌/◌, ◌%◌, List, [], ◌∷◌, ◌++◌, length, refl, ap, ◌∙◌, subst, inl, inr, arith}
-use Rattle.std.proofs.lemmas.Bool.{cases_lt}
+use Rattle.std.proofs.Common.{◌≡◌, ℕ, zero, suc, ◌+◌, ◌-◌, ◌/◌, ◌%◌, List, [], ◌∷◌, ◌++◌, length, refl, ap, ◌∙◌, subst, inl, inr, arith}
 use Rattle.std.proofs.lemmas.List.{length-append}
 use Rattle.schedule.specs.Ranges.{Ranges, Lawful}
+use Rattle.schedule.proofs.Sizes.{split}
 use Rattle.writer.specs.declared.held.Held.{Held}
 use Rattle.writer.specs.Stream.{marks, first_pass, group, complete, stream}
 use Rattle.writer.specs.Holding.{Holds, Open, Grows}
@@ -18,23 +18,29 @@ pub record Pushed (R : Ranges) (h : Held) (new : List ℕ) : Type 0 where
   pub grows : (ss : List ℕ) → Holds R ss h → Grows R ss new after written
 
 -- The symbol that stands before the first pair.
-leading : (R : Ranges) → R.lead ≡ 1 → (ss : List ℕ) (x n : ℕ) → length ss ≡ 0 → n ≡ 1 →
+leading : (R : Ranges) (l : ℕ) → R.lead ≡ l → l ≡ 1 → (ss : List ℕ) (x n : ℕ) → length ss ≡ 0 → n ≡ 1 →
     Grows R ss (x ∷ []) (record { count = n; spill = x; waiting = 0 }) []
-leading R e (s ∷ ss) x n h k = absurd (omega arith)
-leading R e [] x n h k = record { holds = record { count = k; spill = rw e refl; waiting = rw e refl }; writes = rw e refl }
+leading R zero e f ss x n h k = absurd (omega arith)
+leading R (suc (suc l)) e f ss x n h k = absurd (omega arith)
+leading R (suc zero) e f (s ∷ ss) x n h k = absurd (omega arith)
+leading R (suc zero) e f [] x n h k =
+    record {
+      holds = record { count = k; spill = rw e refl; waiting = rw e refl };
+      writes = rw e refl;
+    }
 
 module _ (R : Ranges) (law : Lawful R) where
   -- One symbol.
   push : (h : Held) (x : ℕ) → Pushed R h (x ∷ [])
   push h x =
       let high = law.lead_high in
-      elim (cases_lt h.count R.lead) [
+      elim (split h.count R.lead) [
         | inl l ↦ record {
           after = record { count = h.count + 1; spill = x; waiting = 0 };
           written = [];
-          grows = λ ss holds. leading R (omega arith) ss x (h.count + 1) (omega (arith, holds.count)) (omega arith);
+          grows = λ ss holds. leading R R.lead refl (omega arith) ss x (h.count + 1) (omega (arith, holds.count)) (omega arith);
         }
-        | inr l ↦ elim (cases_lt ((h.count - R.lead) % 2) 1) [
+        | inr l ↦ elim (split ((h.count - R.lead) % 2) 1) [
           | inl e ↦ record {
             after = record { count = h.count + 1; spill = h.spill; waiting = x };
             written = [];

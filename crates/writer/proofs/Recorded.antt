@@ -2,12 +2,12 @@
 use Rattle.std.proofs.Common.{◌≡◌, ℕ, List, [], ◌∷◌, ◌++◌, take, Ok, Err, sym, ap, ◌∙◌, subst, inl, inr, append_assoc, append-nil}
 use Rattle.schedule.specs.Ranges.{Ranges, Lawful}
 use Rattle.writer.specs.declared.held.Held.{Held}
-use Rattle.writer.specs.Stream.{Valid, complete, stream}
+use Rattle.writer.specs.Stream.{Valid, first_spill, groups, complete, stream}
 use Rattle.writer.specs.Holding.{Open, opened}
 use Rattle.writer.specs.Runs.{Call, Records, ClosedAtLast, accepted, wrote}
 use Rattle.writer.specs.Runs.Call.{offer, close}
 use Rattle.writer.specs.Laws.{WritesStreams, DistinctBeginnings}
-use Rattle.writer.proofs.Opening.{none_written, opened_open}
+use Rattle.writer.proofs.Opening.{drop_nil, opened_open}
 use Rattle.writer.proofs.Unique.{stream_unique}
 
 module _ (R : Ranges) (law : Lawful R) where
@@ -38,10 +38,13 @@ module _ (R : Ranges) (law : Lawful R) where
             ∙ ap (stream R) (sym same),
       )
 
+  pub none_written : complete R [] ≡ []
+  none_written = ap (groups R 0 (first_spill R.lead [])) (drop_nil R.lead)
+
   pub writes_streams : WritesStreams R
   writes_streams calls r =
       let w = records opened [] calls (opened_open R law) r.0 r.1 in
-      (w.0, ap (λ (bs : List ℕ). bs ++ wrote calls) (sym (none_written R law)) ∙ w.1)
+      (w.0, ap (λ (bs : List ℕ). bs ++ wrote calls) (sym none_written) ∙ w.1)
 
   pub distinct_beginnings : DistinctBeginnings R
   distinct_beginnings one other r q =

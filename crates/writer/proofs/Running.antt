@@ -1,7 +1,8 @@
 -- Every list of calls has one run, and what a new recording accepts is what is valid.
-use Rattle.std.proofs.Common.{◌≡◌, ℕ, ◌≤◌, false, ltb, ◌⊎◌, List, [], ◌∷◌, ◌++◌, map, length, take, drop, replicate, Ok, Err, Result, sym, refl, ap, ◌∙◌, subst, ap₂, inl, inr, ⊎_elim, append-nil, arith}
+use Rattle.std.proofs.Common.{◌≡◌, ℕ, suc, ◌<◌, ◌≤◌, false, ltb, ◌⊎◌, List, [], ◌∷◌, ◌++◌, map, length, take, drop, replicate, Ok, Err, Result, sym, refl, ap, ◌∙◌, subst, ap₂, inl, inr, ⊎_elim, append-nil, arith}
+use Rattle.std.specs.List.{AllByRecursion}
 use Rattle.std.proofs.lemmas.List.{length-append, length-drop, length-replicate, take_at, drop_at, take-append-drop, append_cancel_left}
-use Rattle.std.proofs.lemmas.Bool.Decides.{nat_tests}
+use Rattle.std.proofs.lemmas.Bool.Decides.{nat_tests, leb_tells}
 use Rattle.schedule.specs.declared.fault.Fault.{Fault}
 use Rattle.schedule.specs.declared.fault.Fault.TheVariants.{Piece}
 use Rattle.schedule.specs.declared.fault.PieceFault.TheVariants.{OfferedTooLarge, RecordingTooLong, BufferTooShort}
@@ -12,12 +13,11 @@ use Rattle.schedule.proofs.Table.{says_one, Listed, heard}
 use Rattle.writer.specs.declared.held.Held.{Held}
 use Rattle.writer.specs.Stream.{Valid, complete}
 use Rattle.writer.specs.Holding.{Holds, Open, opened}
-use Rattle.writer.specs.Calls.{offer_writes, close_writes, offer_rows, close_rows, Written, AfterOffer, AfterClose, Offers, Closes}
+use Rattle.writer.specs.Calls.{front_below, offer_writes, close_writes, offer_rows, close_rows, Written, AfterOffer, AfterClose, Offers, Closes}
 use Rattle.writer.specs.Runs.{Call, Records, ClosedAtLast}
 use Rattle.writer.specs.Runs.Call.{offer, close}
 use Rattle.writer.specs.Lists.{Ask, asked, EveryListRecords, ValidIsAccepted}
 use Rattle.writer.specs.Lists.Ask.{ask_offer, ask_close}
-use Rattle.writer.proofs.Fronts.{front_all}
 use Rattle.writer.proofs.Rows.{Fine, fine}
 use Rattle.writer.proofs.Opening.{open_from, opened_open, valid_append}
 use Rattle.writer.proofs.Recorded.{writes_streams}
@@ -39,6 +39,15 @@ same_written n buffer one other front w v e =
     sym (take-append-drop n one)
     ∙ ap₂ (λ (a b : List ℕ). a ++ b) (append_cancel_left front (take n one) (take n other) e) (w.behind ∙ sym v.behind)
     ∙ take-append-drop n other
+
+-- Where every block is below the base, none stops the count.
+front_all : (base : ℕ) (piece : List ℕ) → AllByRecursion (λ x. x < base) piece → front_below base piece ≡ length piece
+front_all base [] b = refl
+front_all base (x ∷ xs) b =
+    elim (leb_tells base x) [
+      | inl t ↦ absurd (omega (arith, b.0))
+      | inr t ↦ rw t.0 (ap suc (front_all base xs b.1))
+    ]
 
 not_less : (a b : ℕ) → b ≤ a → ltb a b ≡ false
 not_less a b h = grind (arith, nat_tests)
