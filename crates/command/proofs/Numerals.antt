@@ -1,12 +1,10 @@
 -- The number that leads some fields is the longest run of digits behind the first space.
-use Rattle.std.proofs.Common.{◌≡◌, ℕ, ◌+◌, ◌<◌, ◌≤◌, ◌⊎◌, ◌↔◌, List, [], ◌∷◌, ◌++◌, length, get_or, take, drop, sym, refl, ap, ◌∙◌, subst, inl, inr, arith}
+use Rattle.std.proofs.Common.{◌≡◌, ℕ, ◌+◌, ◌<◌, ◌≤◌, ◌↔◌, List, [], ◌∷◌, ◌++◌, length, get_or, take, drop, sym, refl, ap, ◌∙◌, subst, inl, inr, arith}
 use Rattle.std.specs.List.{AllByRecursion}
 use Rattle.std.proofs.lemmas.List.{length-append, length-take-le, take-append-drop, get_or-take, get_or_append_left, get_or-append-add, take_at, drop_at}
 use Rattle.std.proofs.ByRecursion.{All-get_or, All-from_get_or}
+use Rattle.std.proofs.lemmas.Bool.{cases_order}
 use Rattle.command.specs.Lines.{space, Digit, Numeral, Fields, value_after}
-
-order : (m n : ℕ) → (m ≡ n) ⊎ ((m < n) ⊎ (n < m))
-order m n = grind arith
 
 -- Fields begin with a space, so a digit does not lead them.
 no_digit_leads : (ns bytes : List ℕ) → Fields ns bytes → 0 < length bytes → Digit (get_or bytes 0 0) → ⊥
@@ -29,7 +27,7 @@ module _ (text : List ℕ) (end : ℕ)
   same_end : (n : ℕ) (ns numeral rest : List ℕ) → Numeral n numeral → Fields ns rest → text ≡ numeral ++ rest → length numeral ≡ end
   same_end n ns numeral rest is fields e =
       let l : length text ≡ length numeral + length rest = ap length e ∙ length-append numeral rest in
-      elim (order (length numeral) end) [
+      elim (cases_order (length numeral) end) [
         | inl same ↦ same
         | inr apart ↦ absurd (elim apart [
           | inl short ↦

@@ -1,5 +1,6 @@
 -- Fields that are read number by number.
 use Rattle.std.proofs.Common.{◌≡◌, ℕ, ◌-◌, ◌<◌, ◌↔◌, List, [], ◌∷◌, ◌++◌, length, get_or, take, drop, Some, None, Option, sym, refl, ap, ◌∙◌, subst, append_assoc, arith}
+use Rattle.std.specs.Option.{option_map}
 use Rattle.std.proofs.lemmas.List.{append-nil}
 use Rattle.std.proofs.lemmas.Slice.{first_rest}
 use Rattle.command.specs.Lines.{space, Fields, Says}
@@ -55,9 +56,10 @@ module _ (line fields : List ℕ) (l : ℕ) (e : line ≡ l ∷ fields) where
       let f : fields ≡ s.0 = ap (drop 1) (sym e ∙ s.2) in
       (subst (Fields ns) (sym f) s.1, ap (λ (bs : List ℕ). get_or bs 0 0) (sym e ∙ s.2))
 
-  pub says_some : (found : List ℕ) → Reads (Some found) fields →
-      (letter : ℕ) (ns : List ℕ) → (◌≡◌ {A = Option (ℕ × List ℕ)} (Some (l, found)) (Some (letter, ns))) ↔ Says letter ns line
-  says_some found reads letter ns = (
+  -- The letter beside the numbers that were read, if any.
+  pub says : (answer : Option (List ℕ)) → Reads answer fields →
+      (letter : ℕ) (ns : List ℕ) → (option_map {U = ℕ × List ℕ} (λ found. (l, found)) answer ≡ Some (letter, ns)) ↔ Says letter ns line
+  says (Some found) reads letter ns = (
     (λ q. let same : ◌≡◌ {A = ℕ × List ℕ} (l, found) (letter, ns) = cc in (
       fields,
       (reads ns).0 (ap (λ (p : ℕ × List ℕ). Some p.1) same),
@@ -65,9 +67,7 @@ module _ (line fields : List ℕ) (l : ℕ) (e : line ≡ l ∷ fields) where
     )),
     (λ s. let p = fields_of letter ns s in let b = (reads ns).1 p.0 in let a = p.1 in cc),
   )
-
-  pub says_none : Reads None fields → (letter : ℕ) (ns : List ℕ) → (◌≡◌ {A = Option (ℕ × List ℕ)} None (Some (letter, ns))) ↔ Says letter ns line
-  says_none reads letter ns = (
+  says None reads letter ns = (
     (λ q. absurd (let z : ◌≡◌ {A = ℕ} 0 1 = cc in omega arith)),
     (λ s. absurd (none_is_not_some ns ((reads ns).1 (fields_of letter ns s).0))),
   )

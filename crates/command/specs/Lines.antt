@@ -1,9 +1,10 @@
 -- The lines of `reel`'s input, and what a line says: a letter, and numbers, each with one space before it.
-use Rattle.std.specs.Prelude.{◌≡◌, ℕ, ◌+◌, ◌-◌, ◌*◌, ◌<◌, ◌≤◌, Bool, true, false, ◌⊎◌, List, [], ◌∷◌, ◌++◌, length, Some, None, vec_items, Option, ◌≢◌}
+use Rattle.std.specs.Prelude.{◌≡◌, ℕ, ◌+◌, ◌-◌, ◌*◌, ◌<◌, ◌≤◌, Bool, true, false, ◌⊎◌, List, [], ◌∷◌, ◌++◌, length, Option, Some, None, Result, Ok, Err, vec_items, ◌≢◌}
 use Rattle.std.specs.List.{AllByRecursion}
+use denote.Ref.{Bor}
 use Rattle.command.specs.declared.Line.{Line}
-use Rattle.command.specs.declared.Next.{Next}
-use Rattle.command.specs.declared.Next.TheVariants.{Whole, CutOff, Nothing}
+use Rattle.command.specs.declared.Lines.{Lines}
+use Rattle.command.specs.declared.CutOff.{CutOff}
 
 -- How many bytes of the input count.
 abbrev pub most : ℕ
@@ -54,10 +55,17 @@ pub record Cut (text line rest : List ℕ) : Type 0 where
 abbrev pub OneLine : List ℕ → Type 0
 OneLine bytes = AllByRecursion (λ c. c ≢ line_feed) bytes
 
--- What comes next in a text: its first line; at its end the last line, which needs no line feed unless it was cut off;
--- and nothing where nothing is left.
-abbrev pub Comes : Bool → List ℕ → Next → Type 0
-Comes cut text (Whole line rest) =
-    Cut text line.now rest.now ⊎ (OneLine text × (0 < length text) × (cut ≡ false) × (line.now ≡ text) × (rest.now ≡ []))
-Comes cut text CutOff = OneLine text × (0 < length text) × (cut ≡ true)
-Comes cut text Nothing = text ≡ []
+-- What is left of an input's lines, and whether the input was cut off.
+abbrev pub text_left : Lines → List ℕ
+text_left lines = lines.text.now
+
+abbrev pub is_cut : Lines → Bool
+is_cut lines = lines.cut
+
+-- What comes next in a text, and what is left behind it: its first line; at its end the last line, which needs no line feed
+-- unless it was cut off; and nothing where nothing is left.
+abbrev pub Comes : Bool → List ℕ → Option (Result (Bor (List ℕ)) CutOff) → List ℕ → Type 0
+Comes cut text (Some (Ok line)) rest =
+    Cut text line.now rest ⊎ (OneLine text × (0 < length text) × (cut ≡ false) × (line.now ≡ text) × (rest ≡ []))
+Comes cut text (Some (Err _)) rest = OneLine text × (0 < length text) × (cut ≡ true) × (rest ≡ [])
+Comes cut text None rest = (text ≡ []) × (rest ≡ [])

@@ -4,9 +4,11 @@
 ghost use Rattle.std.specs.Prelude.{◌≡◌, ℕ, ◌<◌, ◌≤◌, ◌↔◌, List, ◌∷◌, length, take, IfSome, IfOk, Some, vec_items, MatchOption, ◌≢◌, nat_lt, slice_index};
 ghost use Rattle.std.specs.Option.{option_map};
 ghost use Rattle.std.specs.List.{AllByRecursion};
-ghost use Rattle.command.specs.Lines.{Digit, Fields, Says, Cut, Comes, given, value_after, space, line_feed, most};
+ghost use Rattle.std.specs.Iterator.{item_count};
+ghost use Rattle.command.specs.Lines.{Digit, Fields, Says, Cut, Comes, given, value_after, space, line_feed, most, text_left, is_cut};
 
 use std::alloc::{AllocError, Global};
+use std::mem;
 
 const MOST: usize = 32768;
 
@@ -15,17 +17,6 @@ pub fn limit() -> usize
     ensures { result ≡ most }
 {
     MOST
-}
-
-// The bytes of an input that count, and whether it was cut off.
-pub fn counted(input: &[u8]) -> (&[u8], bool)
-    ensures { (result.0.now ≡ take most input.now) × (result.1 ≡ nat_lt most (length input.now)) }
-{
-    if input.len() > MOST {
-        (&input[0..MOST], true)
-    } else {
-        (input, false)
-    }
 }
 
 // A line's letter, and its numbers.
@@ -39,31 +30,60 @@ pub struct Line {
 pub fn first_line(text: &[u8]) -> Option<(&[u8], &[u8])>
     ensures { MatchOption result (AllByRecursion (λ c. c ≢ line_feed) text.now) (λ p. Cut text.now p.0.now p.1.now) }
 {
-    for (i, byte) in text.iter().enumerate() {
-        if *byte == b'\n' {
-            return Some((&text[0..i], &text[i + 1..]));
+    let end = text.iter().position(|byte| *byte == b'\n')?;
+    Some((&text[..end], &text[end + 1..]))
+}
+
+// The input was cut off in its last line.
+#[derive(Clone, Copy, Debug, PartialEq, Eq)]
+pub struct CutOff;
+
+// The lines of an input, as far as it counts. Only a line feed ends a line; the last line needs none, unless it was cut off.
+#[derive(Clone, Debug, Drop)]
+pub struct Lines<'a> {
+    text: &'a [u8],
+    cut: bool,
+}
+
+impl<'a> Lines<'a> {
+    // The bytes of an input that count, and whether it was cut off.
+    pub fn new(input: &'a [u8]) -> Lines<'a>
+        ensures { (text_left result ≡ take most input.now) × (is_cut result ≡ nat_lt most (length input.now)) }
+    {
+        let end = input.len().min(MOST);
+        Lines {
+            text: &input[..end],
+            cut: input.len() > MOST,
         }
     }
-    None
+
+    // Whether the input was cut off.
+    pub fn cut(&self) -> bool
+        ensures { result ≡ is_cut self.now }
+    {
+        self.cut
+    }
 }
 
-// What comes next in a text: a line and what stands behind it, a line that was cut off, or nothing.
-#[derive(Drop)]
-pub enum Next<'a> {
-    Whole(&'a [u8], &'a [u8]),
-    CutOff,
-    Nothing,
-}
+impl<'a> Iterator for Lines<'a> {
+    type Item = Result<&'a [u8], CutOff>;
 
-// What comes next in a text. Only a line feed ends a line; the last line needs none, unless it was cut off.
-pub fn next_line(text: &[u8], cut: bool) -> Next<'_>
-    ensures { Comes cut text.now result }
-{
-    match first_line(text) {
-        Some((line, rest)) => Next::Whole(line, rest),
-        None if text.is_empty() => Next::Nothing,
-        None if cut => Next::CutOff,
-        None => Next::Whole(text, &[]),
+    ghost next_gives = { λ before result after. Comes (is_cut before) (text_left before) result (text_left after)
+        × (is_cut after ≡ is_cut before) };
+
+    ghost remaining = { item_count text_left };
+
+    fn next(&mut self) -> Option<Result<&'a [u8], CutOff>> {
+        let text = mem::take(&mut self.text);
+        match first_line(text) {
+            Some((line, rest)) => {
+                self.text = rest;
+                Some(Ok(line))
+            }
+            None if text.is_empty() => None,
+            None if self.cut => Some(Err(CutOff)),
+            None => Some(Ok(text)),
+        }
     }
 }
 
@@ -73,15 +93,13 @@ fn leading_digits(text: &[u8]) -> usize
     ensures digits { (k : ℕ) → k < result → Digit (slice_index text.now k) }
     ensures stops { result < length text.now → result < 9 → Digit (slice_index text.now result) → ⊥ }
 {
-    for (i, byte) in text.iter().enumerate() {
-        if i == 9 || *byte < b'0' || *byte > b'9' {
-            return i;
-        }
-    }
-    text.len()
+    text.iter()
+        .take(9)
+        .take_while(|byte| byte.is_ascii_digit())
+        .count()
 }
 
-// The number that these digits write.
+// The number that these digits write. In a `fold` each digit would have to show that the value fits, without its place.
 fn value(digits: &[u8]) -> u64
     requires short { length digits.now ≤ 9 }
     requires digits { AllByRecursion Digit digits.now }
@@ -89,7 +107,7 @@ fn value(digits: &[u8]) -> u64
 {
     let mut value = 0u64;
     for digit in digits {
-        value = value * 10 + (*digit - b'0') as u64;
+        value = value * 10 + u64::from(*digit - b'0');
     }
     value
 }
@@ -99,11 +117,11 @@ fn number(text: &[u8]) -> Option<(u64, &[u8])>
     ensures reads { MatchOption result ((ns : List ℕ) → Fields ns (space ∷ text.now) → ⊥) (λ p. (ns : List ℕ) → Fields ns (space ∷ text.now) ↔ ((more : List ℕ) × (ns ≡ p.0 ∷ more) × Fields more p.1.now)) }
     ensures shorter { IfSome result (λ p. length p.1.now ≤ length text.now) }
 {
-    let end = leading_digits(text);
-    if end == 0 {
+    let (digits, rest) = text.split_at(leading_digits(text));
+    if digits.is_empty() {
         return None;
     }
-    Some((value(&text[0..end]), &text[end..]))
+    Some((value(digits), rest))
 }
 
 // The numbers of these fields, each with one space before it; none where the fields are anything else.
@@ -112,17 +130,14 @@ fn numbers(heap: Global, fields: &[u8]) -> Result<Option<Vec<u64>>, AllocError>
 {
     let mut all = Vec::new(heap);
     let mut rest = fields;
-    while !rest.is_empty() {
-        if rest[0] != b' ' {
-            return Ok(None);
-        }
-        let Some((value, after)) = number(&rest[1..]) else {
+    while let [b' ', text @ ..] = rest {
+        let Some((value, after)) = number(text) else {
             return Ok(None);
         };
         all.push(value)?;
         rest = after;
     }
-    Ok(Some(all))
+    Ok(rest.is_empty().then_some(all))
 }
 
 // The letter and the numbers of a line; none where the line is not a letter and numbers, each with one space before it.
@@ -132,11 +147,8 @@ pub fn parse(heap: Global, line: &[u8]) -> Result<Option<Line>, AllocError>
     let [letter, fields @ ..] = line else {
         return Ok(None);
     };
-    match numbers(heap, fields)? {
-        Some(numbers) => Ok(Some(Line {
-            letter: *letter as char,
-            numbers,
-        })),
-        None => Ok(None),
-    }
+    Ok(numbers(heap, fields)?.map(|numbers| Line {
+        letter: char::from(*letter),
+        numbers,
+    }))
 }

@@ -1,4 +1,3 @@
-pub mod Extending
 pub mod Inside
 pub mod Only
 pub mod Through

@@ -12,12 +12,10 @@ use Rattle.schedule.proofs.Judged.{judged_clear, clear_judged}
 use Rattle.schedule.proofs.Table.{fault_of, fault_back, says_one, Listed, heard}
 use Rattle.reader.specs.declared.reading.Brought.{Brought}
 use Rattle.reader.specs.declared.reading.Brought.TheVariants.{Nothing, One, Two, End, OneThenEnd}
-use Rattle.reader.specs.declared.reading.Half.{Half}
-use Rattle.reader.specs.declared.reading.Half.TheVariants.{First, Second}
 use Rattle.reader.specs.declared.reading.Reading.{Reading}
-use Rattle.reader.specs.Reading.{brought, completes, step_of, before_of, lead_symbol, found, hands_over, pair_rows_before, started, InRange}
+use Rattle.reader.specs.Reading.{brought, completes, lead_symbol, found, hands_over, pair_rows_before, started, InRange}
 use Rattle.reader.specs.Calls.{says_brought, whole_rows, whole_brings, take_rows, take_brings, after_whole, after_take, Takes, Stops}
-use Rattle.reader.proofs.Taking.{group_in_range}
+use Rattle.reader.proofs.Taking.{reader_at, group_in_range}
 use Rattle.lane.specs.Reads.{Reply, Request, request, Reads, StoppedAtLast}
 use Rattle.lane.specs.Reads.Reply.{took, stopped}
 use Rattle.lane.specs.Reads.Request.{take_it, stop_it}
@@ -71,7 +69,7 @@ found_handed R (suc i) before w = two_handed _ _ (eqb _ (end_mark R)) (eqb _ (en
 
 whole_handed : (R : Ranges) (g : Reading) (w : Option ℕ) → (x : Brought) × (brought x ≡ whole_brings R g w)
 whole_handed R g None = (Nothing, refl)
-whole_handed R g (Some w) = found_handed R (step_of g.half) (before_of g.half) w
+whole_handed R g (Some w) = found_handed R g.step g.before w
 
 -- The rows of a take are rows of the table.
 listed_append : (rows more : List (ℕ × ℕ × Bool)) → Listed rows → Listed more → Listed (rows ++ more)
@@ -86,15 +84,15 @@ whole_listed : (R : Ranges) (g : Reading) (w : Option ℕ) → Listed (whole_row
 whole_listed R g None = tt
 whole_listed R g (Some w) = (
   (SecondPass (CarrierBeyondRange _), refl),
-  listed_append (pair_rows_before R g.count (step_of g.half) (before_of g.half) w) _
-      (pair_listed R g.count (step_of g.half) (before_of g.half) w)
+  listed_append (pair_rows_before R g.count g.step g.before w) _
+      (pair_listed R g.count g.step g.before w)
       ((Closing (ClosingNotZero _), refl), ((Closing (NoMark _), refl), tt)),
 )
 
 -- Some answer to a take says what its rows come to.
 heard_take : (R : Ranges) (g : Reading) (b : ℕ) → (answer : Result Brought Fault) × (says_brought answer ≡ judged (take_rows R g b) (take_brings R g b))
 heard_take R g b =
-    let w = completes R.lead R.base g.half b in
+    let w = completes R.lead R.base g.step g.low b in
     let a = heard (take_rows R g b) (take_brings R g b) ((SecondPass (TakenTooLarge _), refl), whole_listed R g w) in
     go a.0 a.1 (whole_handed R g w)
   where
@@ -105,34 +103,29 @@ heard_take R g b =
     go (Err f) e x = (Err f, e)
 
 module _ (R : Ranges) (law : Lawful R) where
-  -- The reader with this count and this half.
-  abbrev reader_at : ℕ → Half → Reading
-  reader_at n h = record { count = n; half = h }
-
   -- After an accepted block the reader's numbers are in range.
-  whole_in_range : (lead n b : ℕ) (h : Half) (x : Brought) → R.lead ≡ lead → InRange R (reader_at n h) → b < R.base →
-      Ok (brought x)
-      ≡ judged (whole_rows R (reader_at n h) (completes lead R.base h b)) (whole_brings R (reader_at n h) (completes lead R.base h b)) →
-      InRange R (after_whole R (reader_at n h) b (completes lead R.base h b) (brought x).1)
-  whole_in_range zero n b (First zero before) x is r small e =
-      group_in_range R law (reader_at n (First zero before)) before b (brought x) e (omega arith) (brought x).1 refl
-  whole_in_range (suc l) n b (First zero before) x is r small e =
-      record { step_high = r.step_high; half_below = (r.half_below, small, omega arith); counted = omega arith }
-  whole_in_range lead n b (First (suc j) before) x is r small e =
-      record { step_high = r.step_high; half_below = (r.half_below, small, omega arith); counted = omega arith }
-  whole_in_range lead n b (Second j before low) x is r small e =
-      group_in_range R law (reader_at n (Second j before low)) before (b * R.base + low) (brought x) e
-      (omega (arith, r.half_below.2)) (brought x).1 refl
+  whole_in_range : (lead n b j before : ℕ) (low : Option ℕ) (x : Brought) → let g = reader_at n j before low in
+      let w = completes lead R.base j low b in R.lead ≡ lead → InRange R g → b < R.base →
+      Ok (brought x) ≡ judged (whole_rows R g w) (whole_brings R g w) → InRange R (after_whole R g b w (brought x).1)
+  whole_in_range zero n b zero before None x is r small e =
+      group_in_range R law (reader_at n zero before None) before b (brought x) e (omega arith) (brought x).1 refl
+  whole_in_range (suc l) n b zero before None x is r small e =
+      record { step_high = r.step_high; before_below = r.before_below; low_below = (small, omega arith); counted = omega arith }
+  whole_in_range lead n b (suc j) before None x is r small e =
+      record { step_high = r.step_high; before_below = r.before_below; low_below = (small, omega arith); counted = omega arith }
+  whole_in_range lead n b j before (Some low) x is r small e =
+      group_in_range R law (reader_at n j before (Some low)) before (b * R.base + low) (brought x) e
+      (omega (arith, r.low_below.1)) (brought x).1 refl
 
   take_in_range : (g : Reading) (b : ℕ) (answer : Result Brought Fault) → says_brought answer ≡ judged (take_rows R g b) (take_brings R g b) →
       InRange R g → InRange R (after_take R g b answer)
   take_in_range g b (Err f) e r = r
   take_in_range g b (Ok x) e r =
-      let w = completes R.lead R.base g.half b in
+      let w = completes R.lead R.base g.step g.low b in
       let c = judged_clear (take_rows R g b) (take_brings R g b) (brought x) e in
       let t = c.0.0 in
       let small : b < R.base = grind (arith, nat_tests) in
-      whole_in_range R.lead g.count b g.half x refl r small (ap Ok c.1 ∙ sym (clear_judged (whole_rows R g w) (whole_brings R g w) c.0.1))
+      whole_in_range R.lead g.count b g.step g.before g.low x refl r small (ap Ok c.1 ∙ sym (clear_judged (whole_rows R g w) (whole_brings R g w) c.0.1))
 
   -- A take's answer, and what it leaves; and a stop's, which leaves the reader as it was.
   answer_take : (g : Reading) (b : ℕ) → (answer : Result Brought Fault) × Takes R g b answer (after_take R g b answer)

@@ -1,303 +1,207 @@
 -- A reader takes a whole stream, and hands its recording over.
-use Rattle.std.proofs.Common.{◌≡◌, ℕ, zero, suc, ◌+◌, ◌-◌, ◌*◌, ◌/◌, ◌%◌, ◌<◌, ◌≤◌, Bool, true, false, not, ◌&&◌, ◌||◌, eqb, leb, List, [], ◌∷◌, ◌++◌, length, drop, Some, None, Ok, Option, sym, refl, ap, ◌∙◌, subst, ap₂, ⊎_elim, append_assoc, append-nil, mod-lt, div-add-mod', arith}
+use Rattle.std.proofs.Common.{◌≡◌, ℕ, zero, suc, ◌+◌, ◌*◌, ◌/◌, ◌%◌, ◌<◌, ◌≤◌, Bool, true, false, ◌||◌, eqb, ◌⊎◌, List, [], ◌∷◌, ◌++◌, length, get_or, drop, Some, None, Ok, Option, sym, refl, ap, ◌∙◌, subst, inl, inr, append_assoc, append-nil, mod-lt, div-add-mod', arith}
+use lib.Arith.{digits_div, digits_mod}
 use Rattle.std.specs.List.{AllByRecursion}
+use Rattle.std.proofs.lemmas.Bool.{lt-leb, eq-eqb, ne_eqb, or_right, true≢false, false≢true}
 use Rattle.schedule.specs.Ranges.{Ranges, Lawful, alphabet, end_mark}
 use Rattle.schedule.specs.Faults.{judged}
-use Rattle.schedule.proofs.Judged.{clear_judged}
-use Rattle.schedule.proofs.Sizes.{split}
-use Rattle.writer.specs.Stream.{Valid, marks, symbols, first_spill, first_pass, in_blocks, closed, stream}
-use Rattle.writer.specs.Passes.{pair_number, pair_of, second_pass_back}
-use Rattle.writer.proofs.Inverse.{passes_taken_back, number_back, pair_below, spill_below}
-use Rattle.writer.proofs.Shape.{two_blocks, group_below, closing_below}
-use Rattle.writer.proofs.Unique.{Ended, first_mark, tail_ended, tail_fits}
-use Rattle.writer.proofs.Closing.{marked as marked_as}
-use Rattle.reader.specs.declared.reading.Half.TheVariants.{First, Second}
+use Rattle.schedule.proofs.Judged.{judged_clear}
+use Rattle.schedule.proofs.Sizes.{by_lead}
+use Rattle.writer.specs.Stream.{Valid, marks, symbols, first_pass, in_blocks, closed, stream}
+use Rattle.writer.specs.Passes.{pair_number, pair_of}
+use Rattle.writer.proofs.Inverse.{passes_taken_back, spill_below}
+use Rattle.writer.proofs.Closing.{first_mark, symbols_lone}
+use Rattle.writer.proofs.Shape.{group_below, closing_below, symbols_fit}
+use Rattle.writer.proofs.Unique.{Ended, stream_at, tail_ended}
 use Rattle.reader.specs.declared.reading.Reading.{Reading}
-use Rattle.reader.specs.Back.{limit}
-use Rattle.reader.specs.Reading.{completes, pair_before, found, lead_symbol, until_mark, hands_over, group_rows, started}
-use Rattle.reader.specs.Calls.{whole_rows, whole_brings, after_whole, take_rows, take_brings}
-use Rattle.reader.proofs.Tests.{not_leb, is_eqb, not_eqb}
+use Rattle.reader.specs.Back.{limit, pair_rows}
+use Rattle.reader.specs.Reading.{completes, lead_symbol, until_mark, hands_over, started}
+use Rattle.reader.specs.Calls.{whole_rows, whole_brings, after_group, after_whole}
+use Rattle.reader.proofs.Naming.{group_answer, take_answer}
+use Rattle.reader.proofs.Pairs.{passes_answer}
+use Rattle.reader.proofs.Limits.{below_limit, zero_below_limit}
+use Rattle.reader.proofs.Taking.{reader_at, group_judged}
+
+-- The reader after block b, which brings an end or none.
+abbrev pub next : Ranges → Reading → ℕ → Bool → Reading
+next R g b = after_whole R g b (completes R.lead R.base g.step g.low b)
 
 -- Taking these blocks one after another is accepted, brings the rest of the recording xs, and ends with the last block.
 abbrev pub Accepts : Ranges → Reading → List ℕ → List ℕ → List ℕ → Type 0
 Accepts R g since [] xs = ⊥
 Accepts R g since (b ∷ bs) xs =
-    (x : List ℕ × Bool) × (judged (take_rows R g b) (take_brings R g b) ≡ Ok x)
+    (x : List ℕ × Bool) × (take_answer R g b ≡ Ok x)
     × elim x.1 [
-      | true ↦ (bs ≡ []) × (xs ≡ since ++ x.0) × (after_whole R g b (completes R.lead R.base g.half b) true ≡ started)
-      | false ↦ Accepts R (after_whole R g b (completes R.lead R.base g.half b) false) (since ++ x.0) bs xs
+      | true ↦ (bs ≡ []) × (xs ≡ since ++ x.0) × (next R g b true ≡ started)
+      | false ↦ Accepts R (next R g b false) (since ++ x.0) bs xs
     ]
 
+-- What is left to accept behind a block that brings x.
+abbrev pub Left : Ranges → (Bool → Reading) → List ℕ × Bool → (since bs xs : List ℕ) → Type 0
+Left R then x since bs xs =
+    elim x.1 as (λ (_ : Bool). Type 0) [
+      | true ↦ (bs ≡ []) × (xs ≡ since ++ x.0) × (then true ≡ started)
+      | false ↦ Accepts R (then false) (since ++ x.0) bs xs
+    ]
+
+-- A group is one block, which completes it, or two, of which the first does not.
+one_or_two : (lead base j w : ℕ) →
+    ((in_blocks lead base j w ≡ w ∷ []) × (completes lead base j None w ≡ Some w))
+    ⊎ ((in_blocks lead base j w ≡ (w % base) ∷ (w / base) ∷ []) × (completes lead base j None (w % base) ≡ None))
+one_or_two zero base zero w = inl (refl, refl)
+one_or_two (suc l) base zero w = inr (refl, refl)
+one_or_two lead base (suc j) w = inr (refl, refl)
+
 module _ (R : Ranges) where
-  -- An answer, by the group that the block completes or not.
-  by_whole : (g : Reading) (b : ℕ) (o : Option ℕ) (x : List ℕ × Bool) → b < R.base → completes R.lead R.base g.half b ≡ o →
-      judged (whole_rows R g o) (whole_brings R g o) ≡ Ok x → judged (take_rows R g b) (take_brings R g b) ≡ Ok x
-  by_whole g b o x h e f =
-      rw (not_leb R.base b h) (subst (λ (p : Option ℕ). judged (whole_rows R g p) (whole_brings R g p) ≡ Ok x) (sym e) f)
-
-  goes_on : (g : Reading) (b : ℕ) (o : Option ℕ) (ys since bs xs : List ℕ) → b < R.base → completes R.lead R.base g.half b ≡ o →
-      judged (whole_rows R g o) (whole_brings R g o) ≡ Ok (ys, false) → Accepts R (after_whole R g b o false) (since ++ ys) bs xs →
-      Accepts R g since (b ∷ bs) xs
-  goes_on g b o ys since bs xs h e f more =
-      ((ys, false), by_whole g b o (ys, false) h e f, subst (λ (p : Option ℕ). Accepts R (after_whole R g b p false) (since ++ ys) bs xs) (sym e) more)
-
-  ends_here : (g : Reading) (b w : ℕ) (ys since : List ℕ) → b < R.base → completes R.lead R.base g.half b ≡ Some w →
-      judged (whole_rows R g (Some w)) (whole_brings R g (Some w)) ≡ Ok (ys, true) → Accepts R g since (b ∷ []) (since ++ ys)
-  ends_here g b w ys since h e f =
-      ((ys, true), by_whole g b (Some w) (ys, true) h e f, (refl, refl, ap (λ (p : Option ℕ). after_whole R g b p true) e))
-
-  none_yet : (lead base j before b : ℕ) → 1 ≤ j + lead → completes lead base (First j before) b ≡ None
-  none_yet zero base zero before b h = absurd (omega arith)
-  none_yet (suc l) base zero before b h = refl
-  none_yet lead base (suc j) before b h = refl
-
-  alone_at : (lead base j before b : ℕ) → j + lead ≡ 0 → completes lead base (First j before) b ≡ Some b
-  alone_at zero base zero before b e = refl
-  alone_at (suc l) base zero before b e = absurd (omega arith)
-  alone_at lead base (suc j) before b e = absurd (omega arith)
-
-  single : (lead base j w : ℕ) → j + lead ≡ 0 → in_blocks lead base j w ≡ w ∷ []
-  single zero base zero w e = refl
-  single (suc l) base zero w e = absurd (omega arith)
-  single lead base (suc j) w e = absurd (omega arith)
-
-  -- The blocks of group j, of the number w, after the carrier `before`.
-  module _ (j before w : ℕ) (below : AllByRecursion (λ x. x < R.base) (in_blocks R.lead R.base j w)) where
-    abbrev Answers : List ℕ → Bool → Type 0
-    Answers ys end = (p : ℕ) → judged (group_rows R p j before w) (hands_over R (found R j before w)) ≡ Ok (ys, end)
-
-    -- The first of two blocks.
-    first_of_two : (n : ℕ) (since rest xs : List ℕ) → 1 ≤ j + R.lead → w % R.base < R.base →
-        Accepts R (record { count = n + 1; half = Second j before (w % R.base) }) since rest xs →
-        Accepts R (record { count = n; half = First j before }) since (w % R.base ∷ rest) xs
-    first_of_two n since rest xs h low more =
-        goes_on (record { count = n; half = First j before }) (w % R.base) None [] since rest xs low (none_yet R.lead R.base j before (w % R.base) h) refl
-        (subst (λ (s : List ℕ). Accepts R (record { count = n + 1; half = Second j before (w % R.base) }) s rest xs) (sym (append-nil since)) more)
-
-    whole_is : completes R.lead R.base (Second j before (w % R.base)) (w / R.base) ≡ Some w
-    whole_is = ap Some (div-add-mod' w R.base)
-
-    pub group_on : (n : ℕ) (ys since rest xs : List ℕ) → Answers ys false →
-        ((c : ℕ) → Accepts R (record { count = c; half = First (suc j) (w / R.spill j) }) (since ++ ys) rest xs) →
-        Accepts R (record { count = n; half = First j before }) since (in_blocks R.lead R.base j w ++ rest) xs
-    group_on n ys since rest xs a more = ⊎_elim one two (split (j + R.lead) 1)
-      where
-        two : 1 ≤ j + R.lead → Accepts R (record { count = n; half = First j before }) since (in_blocks R.lead R.base j w ++ rest) xs
-        two h =
-            let is = two_blocks R.lead R.base j w h in
-            let b = subst (AllByRecursion (λ x. x < R.base)) is below in
-            subst (λ (bs : List ℕ). Accepts R (record { count = n; half = First j before }) since (bs ++ rest) xs) (sym is)
-            (first_of_two n since (w / R.base ∷ rest) xs h b.0
-            (goes_on (record { count = n + 1; half = Second j before (w % R.base) }) (w / R.base) (Some w) ys since rest xs b.1.0 whole_is (a (n + 1)) (more (n + 1 + 1))))
-
-        one : j + R.lead < 1 → Accepts R (record { count = n; half = First j before }) since (in_blocks R.lead R.base j w ++ rest) xs
-        one h =
-            let is = single R.lead R.base j w (omega arith) in
-            let b = subst (AllByRecursion (λ x. x < R.base)) is below in
-            subst (λ (bs : List ℕ). Accepts R (record { count = n; half = First j before }) since (bs ++ rest) xs) (sym is)
-            (goes_on (record { count = n; half = First j before }) w (Some w) ys since rest xs b.0
-            (alone_at R.lead R.base j before w (omega arith)) (a n) (more (n + 1)))
-
-    pub group_ends : (n : ℕ) (ys since : List ℕ) → 1 ≤ j + R.lead → Answers ys true →
-        Accepts R (record { count = n; half = First j before }) since (in_blocks R.lead R.base j w) (since ++ ys)
-    group_ends n ys since h a =
-        let is = two_blocks R.lead R.base j w h in
-        let b = subst (AllByRecursion (λ x. x < R.base)) is below in
-        subst (λ (bs : List ℕ). Accepts R (record { count = n; half = First j before }) since bs (since ++ ys)) (sym is)
-        (first_of_two n since (w / R.base ∷ []) (since ++ ys) h b.0
-        (ends_here (record { count = n + 1; half = Second j before (w % R.base) }) (w / R.base) w ys since b.1.0 whole_is (a (n + 1))))
-
-and_false : (a : Bool) → (a && false) ≡ false
-and_false true = refl
-and_false false = refl
-
-or_true : (a b : Bool) → (a || (true || b)) ≡ true
-or_true true b = refl
-or_true false b = refl
-
-module _ (R : Ranges) (law : Lawful R) where
   abbrev m : ℕ
   m = end_mark R
 
-  -- Group i + 1 of the carrier r, behind the pair (s, t).
-  module _ (i r s t : ℕ) (l : i < R.steps) (hs : s < alphabet R) (ht : t < alphabet R) (hr : r < limit R (suc i)) where
-    abbrev before : ℕ
-    before = (first_pass R i s t).0
+  -- A block, by the group that it completes or not.
+  block_taken : (g : Reading) (b : ℕ) (o : Option ℕ) (x : List ℕ × Bool) (since bs xs : List ℕ) → b < R.base →
+      completes R.lead R.base g.step g.low b ≡ o → judged (whole_rows R g o) (whole_brings R g o) ≡ Ok x →
+      Left R (after_whole R g b o) x since bs xs → Accepts R g since (b ∷ bs) xs
+  block_taken g b o x since bs xs h e f more = (
+    x,
+    rw (lt-leb R.base b h) (subst (λ (p : Option ℕ). judged (whole_rows R g p) (whole_brings R g p) ≡ Ok x) (sym e) f),
+    subst (λ (p : Option ℕ). Left R (after_whole R g b p) x since bs xs) (sym e) more,
+  )
 
-    abbrev y : ℕ
-    y = (first_pass R i s t).1
+  -- Group j of the number w, after the carrier `before`.
+  group_taken : (n j before w : ℕ) (x : List ℕ × Bool) (since rest xs : List ℕ) → AllByRecursion (λ b. b < R.base) (in_blocks R.lead R.base j w) →
+      ((p : ℕ) → group_answer R p j before w ≡ Ok x) →
+      ((c : ℕ) → Left R (after_group R (reader_at c j before None) w) x since rest xs) →
+      Accepts R (reader_at n j before None) since (in_blocks R.lead R.base j w ++ rest) xs
+  group_taken n j before w x since rest xs below a more =
+      let g = reader_at n j before None in
+      elim (one_or_two R.lead R.base j w) [
+        | inl o ↦
+            let b = subst (AllByRecursion (λ b. b < R.base)) o.0 below in
+            subst (λ (bs : List ℕ). Accepts R g since (bs ++ rest) xs) (sym o.0)
+            (block_taken g w (Some w) x since rest xs b.0 o.1 (a n) (more n))
+        | inr o ↦
+            let b = subst (AllByRecursion (λ b. b < R.base)) o.0 below in
+            let g' = reader_at (n + 1) j before (Some (w % R.base)) in
+            subst (λ (bs : List ℕ). Accepts R g since (bs ++ rest) xs) (sym o.0)
+            (block_taken g (w % R.base) None ([], false) since (w / R.base ∷ rest) xs b.0 o.1 refl
+            (subst (λ (zs : List ℕ). Accepts R g' zs (w / R.base ∷ rest) xs) (sym (append-nil since))
+            (block_taken g' (w / R.base) (Some w) x since rest xs b.1.0 (ap Some (div-add-mod' w R.base)) (a (n + 1)) (more (n + 1)))))
+      ]
 
-    abbrev w : ℕ
-    w = r * R.spill (suc i) + y
+  -- Blocks are no marks, so they are handed over.
+  no_mark : (x : ℕ) → x < R.base → eqb x m ≡ false
+  no_mark x h = ne_eqb x m (λ e. omega arith)
 
-    back : second_pass_back R (suc i) w ≡ (r, y)
-    back = (passes_taken_back R).second (suc i) r y (spill_below R law i s t l hs ht)
+  until_block : (x : ℕ) (ss : List ℕ) → x < R.base → until_mark m (x ∷ ss) ≡ x ∷ until_mark m ss
+  until_block x ss h = rw (no_mark x h) refl
 
-    quotient : w / R.spill (suc i) ≡ r
-    quotient = ap (λ (p : ℕ × ℕ). p.0) back
+  until_marks : (xs : List ℕ) (n : ℕ) → AllByRecursion (λ x. x < R.base) xs → until_mark m (xs ++ marks R n) ≡ xs
+  until_marks [] n b = ap (until_mark m) (first_mark R n).1 ∙ rw (eq-eqb m m refl) refl
+  until_marks (x ∷ xs) n b = until_block x (xs ++ marks R n) b.0 ∙ ap (λ (ys : List ℕ). x ∷ ys) (until_marks xs n b.1)
 
-    z_is : pair_before R i before w ≡ t * alphabet R + s
-    z_is = ap (λ (p : ℕ × ℕ). pair_number R i before p.1) back ∙ number_back R i s t
-
-    pair_is : pair_of R (pair_before R i before w) ≡ (s, t)
-    pair_is = ap (λ (p : ℕ × ℕ). pair_of R (pair_number R i before p.1)) back ∙ (passes_taken_back R).first i s t l hs ht
-
-    s_is : (pair_of R (pair_before R i before w)).0 ≡ s
-    s_is = ap (λ (p : ℕ × ℕ). p.0) pair_is
-
-    t_is : (pair_of R (pair_before R i before w)).1 ≡ t
-    t_is = ap (λ (p : ℕ × ℕ). p.1) pair_is
-
-    pub pair_answers : (ys : List ℕ) (end : Bool) → hands_over R (s ∷ t ∷ []) ≡ (ys, end) →
-        (eqb s m && not (eqb t m)) ≡ false → (end && not (eqb r 0)) ≡ false → (eqb (suc i) R.steps && not end) ≡ false →
-        (p : ℕ) → judged (group_rows R p (suc i) before w) (hands_over R (found R (suc i) before w)) ≡ Ok (ys, end)
-    pair_answers ys end is c d e p =
-        let shows : hands_over R (found R (suc i) before w) ≡ (ys, end) = ap₂ (λ (u v : ℕ). hands_over R (u ∷ v ∷ [])) s_is t_is ∙ is in
-        let ended = ap (λ (q : List ℕ × Bool). q.1) shows in
-        clear_judged (group_rows R p (suc i) before w) (hands_over R (found R (suc i) before w)) (
-          ap (leb (limit R (suc i))) quotient ∙ not_leb (limit R (suc i)) r hr,
-          (
-            ap (leb (alphabet R * alphabet R)) z_is ∙ not_leb (alphabet R * alphabet R) (t * alphabet R + s) (pair_below R s t hs ht),
-            (
-              ap₂ (λ (u v : ℕ). eqb u m && not (eqb v m)) s_is t_is ∙ c,
-              (
-                ap₂ (λ (u : Bool) (v : ℕ). u && not (eqb v 0)) ended quotient ∙ d,
-                (ap (λ (u : Bool). eqb (suc i) R.steps && not u) ended ∙ e, tt),
-              ),
-            ),
-          ),
-        )
-        ∙ ap Ok shows
-
-  -- Two blocks, and the stream goes on.
+  -- Two blocks, and the stream goes on; and the last pair.
   two_brought : (s t : ℕ) → s < R.base → t < R.base → hands_over R (s ∷ t ∷ []) ≡ (s ∷ t ∷ [], false)
-  two_brought s t h k =
-      let a = not_eqb s m (λ e. omega arith) in
-      let b = not_eqb t m (λ e. omega arith) in
-      rw (a, b) refl
+  two_brought s t h k = rw (no_mark s h, no_mark t k) refl
 
-  -- The last pair.
   end_brought : (s t : ℕ) → t ≡ m → hands_over R (s ∷ t ∷ []) ≡ (until_mark m (s ∷ t ∷ []), true)
-  end_brought s t e = ap (λ (b : Bool). (until_mark m (s ∷ t ∷ []), b)) (rw (is_eqb t m e) (or_true (eqb s m) false))
+  end_brought s t e =
+      ap (λ (b : Bool). (until_mark m (s ∷ t ∷ []), b)) (or_right (eqb s m) (eqb t m || false) (ap (λ (b : Bool). b || false) (eq-eqb t m e)))
 
-  pub below_limit : (j r : ℕ) → j < R.steps → r < R.carrier j → r < limit R j
-  below_limit j r l h = let a = not_eqb j R.steps (λ e. omega arith) in rw a h
+module _ (R : Ranges) (law : Lawful R) where
+  -- Group i + 1 of the carrier r, behind the pair (s, t); and group 0 of the carrier r and the spill y.
+  pair_answers : (i r s t p : ℕ) (x : List ℕ × Bool) → i < R.steps → s < alphabet R → t < alphabet R → r < limit R (suc i) →
+      (s ≡ m R → t ≡ m R) → hands_over R (s ∷ t ∷ []) ≡ x → (x.1 ≡ true → r ≡ 0) → (x.1 ≡ false → suc i < R.steps) →
+      group_answer R p (suc i) (first_pass R i s t).0 (r * R.spill (suc i) + (first_pass R i s t).1) ≡ Ok x
+  pair_answers i r s t p x l hs ht hr order is ends goes_on =
+      let spill = spill_below R law i s t l hs ht in
+      let quotient = digits_div r spill in
+      let rest = digits_mod r spill in
+      let pair = (passes_taken_back R).first i s t l hs ht in
+      let z = pair_number R i (first_pass R i s t).0 (first_pass R i s t).1 in
+      group_judged R p (suc i) (first_pass R i s t).0 (r * R.spill (suc i) + (first_pass R i s t).1) x
+      (sym (rw rest (ap (λ (q : ℕ × ℕ). hands_over R (q.0 ∷ q.1 ∷ [])) pair ∙ is))) (rw quotient hr)
+      (rw rest (judged_clear (pair_rows R p z) (pair_of R z) (s, t) (sym ((passes_answer R).first p i s t l hs ht order))).0) (λ e. quotient ∙ ends e) goes_on
 
-  pub zero_below_limit : (j : ℕ) → j ≤ R.steps → 0 < limit R j
-  zero_below_limit j h = ⊎_elim (λ l. below_limit j 0 l (omega (arith, law.carrier_low j l))) at_last (split j R.steps)
-    where
-      at_last : R.steps ≤ j → 0 < limit R j
-      at_last l = let a = is_eqb j R.steps (omega arith) in rw a (omega arith)
+  lead_answers : (r y p : ℕ) (x : List ℕ × Bool) → y < R.spill 0 → r < limit R 0 → hands_over R (lead_symbol R.lead y) ≡ x →
+      (x.1 ≡ true → r ≡ 0) → group_answer R p 0 0 (r * R.spill 0 + y) ≡ Ok x
+  lead_answers r y p x hy hr is ends =
+      let quotient = digits_div r hy in
+      group_judged R p 0 0 (r * R.spill 0 + y) x (sym (rw (digits_mod r hy) is)) (rw quotient hr) tt (λ e. quotient ∙ ends e)
+      (λ _. omega (arith, law.steps_low))
 
-  until_two : (s t : ℕ) (ss : List ℕ) → s < R.base → t < R.base → until_mark m (s ∷ t ∷ ss) ≡ s ∷ t ∷ until_mark m ss
-  until_two s t ss h k =
-      let a = not_eqb s m (λ e. omega arith) in
-      let b = not_eqb t m (λ e. omega arith) in
-      rw (a, b) refl
+  -- The closing group, which makes the last symbols known; and a group whose carrier is that of the pair (s, t).
+  closing_taken : (n j before y : ℕ) (ys since : List ℕ) → j ≤ R.steps → 1 ≤ j + R.lead → y < R.spill j →
+      ((p : ℕ) → 0 < limit R j → group_answer R p j before (0 * R.spill j + y) ≡ Ok (ys, true)) →
+      Accepts R (reader_at n j before None) since (closed R j y []) (since ++ ys)
+  closing_taken n j before y ys since l h k a =
+      subst (λ (bs : List ℕ). Accepts R (reader_at n j before None) since bs (since ++ ys)) (append-nil (closed R j y []))
+      (group_taken R n j before (0 * R.spill j + y) (ys, true) since [] (since ++ ys) (closing_below R law j y l h k)
+      (λ p. a p (zero_below_limit R law j l)) (λ c. (refl, refl, refl)))
+
+  pair_taken : (n j before y s t : ℕ) (ys since ss xs : List ℕ) → j < R.steps → y < R.spill j →
+      ((r p : ℕ) → r < limit R j → group_answer R p j before (r * R.spill j + y) ≡ Ok (ys, false)) →
+      ((c : ℕ) → Accepts R (reader_at c (suc j) (first_pass R j s t).0 None) (since ++ ys) (closed R (suc j) (first_pass R j s t).1 ss) xs) →
+      Accepts R (reader_at n j before None) since (closed R j y (s ∷ t ∷ ss)) xs
+  pair_taken n j before y s t ys since ss xs l k a more =
+      let r = (first_pass R j s t).0 in
+      let rest = closed R (suc j) (first_pass R j s t).1 ss in
+      let carrier : r < R.carrier j = mod-lt _ (omega (arith, law.carrier_low j l)) in
+      group_taken R n j before (r * R.spill j + y) (ys, false) since rest xs (group_below R law j r y l carrier k)
+      (λ p. a r p (below_limit R law j r l carrier))
+      (λ c. subst (λ (q : ℕ). Accepts R (reader_at (c + 1) (suc j) q None) (since ++ ys) rest xs) (sym (digits_div r k)) (more (c + 1)))
 
   -- From a group's carrier on to the end.
-  through : (ss : List ℕ) (n j s t : ℕ) (since : List ℕ) → Ended m (s ∷ t ∷ ss) → 2 * suc j + length ss ≤ 2 * R.steps →
-      Accepts R (record { count = n; half = First (suc j) (first_pass R j s t).0 }) since (closed R (suc j) (first_pass R j s t).1 ss) (since ++ until_mark m (s ∷ t ∷ ss))
+  through : (ss : List ℕ) (n j s t : ℕ) (since : List ℕ) → Ended (m R) (s ∷ t ∷ ss) → 2 * suc j + length ss ≤ 2 * R.steps →
+      Accepts R (reader_at n (suc j) (first_pass R j s t).0 None) since (closed R (suc j) (first_pass R j s t).1 ss)
+      (since ++ until_mark (m R) (s ∷ t ∷ ss))
   through [] n j s t since v h =
+      let l : j < R.steps = omega arith in
       let hs : s < alphabet R = omega (arith, v.0) in
       let ht : t < alphabet R = omega (arith, v.1) in
-      let spill = spill_below R law j s t (omega arith) hs ht in
-      group_ends R (suc j) (first_pass R j s t).0 (0 * R.spill (suc j) + (first_pass R j s t).1)
-      (closing_below R law (suc j) (first_pass R j s t).1 (omega arith) (omega arith) spill) n (until_mark m (s ∷ t ∷ [])) since (omega arith)
-      (pair_answers j 0 s t (omega arith) hs ht (zero_below_limit (suc j) (omega arith)) (until_mark m (s ∷ t ∷ [])) true (end_brought s t v.1)
-      (rw (is_eqb t m v.1) (and_false (eqb s m))) refl (and_false (eqb (suc j) R.steps)))
+      closing_taken n (suc j) _ _ (until_mark (m R) (s ∷ t ∷ [])) since l (omega arith) (spill_below R law j s t l hs ht)
+      (λ p hr. pair_answers j 0 s t p _ l hs ht hr (λ _. v.1) (end_brought R s t v.1) (λ _. refl) (λ f. absurd (true≢false f)))
   through (s' ∷ []) n j s t since v h = absurd v.2
   through (s' ∷ t' ∷ ss) n j s t since v h =
+      let l : suc j < R.steps = omega arith in
       let hs : s < alphabet R = omega (arith, v.0) in
       let ht : t < alphabet R = omega (arith, v.1) in
-      let p = first_pass R (suc j) s' t' in
-      let low = law.carrier_low (suc j) (omega arith) in
-      let carrier : p.0 < R.carrier (suc j) = mod-lt _ (omega arith) in
-      let spill = spill_below R law j s t (omega arith) hs ht in
-      let last = not_eqb (suc j) R.steps (λ e. omega arith) in
-      let xs = since ++ until_mark m (s ∷ t ∷ s' ∷ t' ∷ ss) in
-      let same : (since ++ s ∷ t ∷ []) ++ until_mark m (s' ∷ t' ∷ ss) ≡ xs =
-      append_assoc since (s ∷ t ∷ []) (until_mark m (s' ∷ t' ∷ ss)) ∙ ap (λ (bs : List ℕ). since ++ bs) (sym (until_two s t (s' ∷ t' ∷ ss) v.0 v.1)) in
-      group_on R (suc j) (first_pass R j s t).0 (p.0 * R.spill (suc j) + (first_pass R j s t).1)
-      (group_below R law (suc j) p.0 (first_pass R j s t).1 (omega arith) carrier spill) n (s ∷ t ∷ []) since (closed R (suc (suc j)) p.1 ss) xs
-      (pair_answers j p.0 s t (omega arith) hs ht (below_limit (suc j) p.0 (omega arith) carrier) (s ∷ t ∷ []) false (two_brought s t v.0 v.1)
-      (let a = not_eqb s m (λ e. omega arith) in rw a refl) refl (rw last refl))
-      (λ c. subst (λ (r : ℕ). Accepts R (record { count = c; half = First (suc (suc j)) r }) (since ++ s ∷ t ∷ []) (closed R (suc (suc j)) p.1 ss) xs)
-      (sym (quotient j p.0 s t (omega arith) hs ht (below_limit (suc j) p.0 (omega arith) carrier)))
-      (subst (Accepts R (record { count = c; half = First (suc (suc j)) p.0 }) (since ++ s ∷ t ∷ []) (closed R (suc (suc j)) p.1 ss)) same
-      (through ss c (suc j) s' t' (since ++ s ∷ t ∷ []) v.2 (omega arith))))
-
-  -- Group 0 of the carrier r and the spill y.
-  lead_answers : (before r y : ℕ) (ys : List ℕ) (end : Bool) → y < R.spill 0 → r < limit R 0 → hands_over R (lead_symbol R.lead y) ≡ (ys, end) →
-      (end && not (eqb r 0)) ≡ false → (p : ℕ) →
-      judged (group_rows R p 0 before (r * R.spill 0 + y)) (hands_over R (found R 0 before (r * R.spill 0 + y))) ≡ Ok (ys, end)
-  lead_answers before r y ys end hy hr is d p =
-      let w = r * R.spill 0 + y in
-      let back = (passes_taken_back R).second 0 r y hy in
-      let quotient = ap (λ (q : ℕ × ℕ). q.0) back in
-      let shows : hands_over R (found R 0 before w) ≡ (ys, end) = ap (λ (q : ℕ × ℕ). hands_over R (lead_symbol R.lead q.1)) back ∙ is in
-      let ended = ap (λ (q : List ℕ × Bool). q.1) shows in
-      let last = not_eqb 0 R.steps (λ e. omega (arith, law.steps_low)) in
-      clear_judged (group_rows R p 0 before w) (hands_over R (found R 0 before w)) (
-        ap (leb (limit R 0)) quotient ∙ not_leb (limit R 0) r hr,
-        (
-          ap₂ (λ (u : Bool) (v : ℕ). u && not (eqb v 0)) ended quotient ∙ d,
-          (rw last refl, tt),
-        ),
-      )
-      ∙ ap Ok shows
+      let more = until_mark (m R) (s' ∷ t' ∷ ss) in
+      let same : (since ++ s ∷ t ∷ []) ++ more ≡ since ++ until_mark (m R) (s ∷ t ∷ s' ∷ t' ∷ ss) =
+      append_assoc since (s ∷ t ∷ []) more ∙ ap (λ (bs : List ℕ). since ++ bs) (sym (rw (no_mark R s v.0, no_mark R t v.1) refl)) in
+      pair_taken n (suc j) _ _ s' t' (s ∷ t ∷ []) since ss _ l (spill_below R law j s t (omega arith) hs ht)
+      (λ r p hr. pair_answers j r s t p _ (omega arith) hs ht hr (λ e. absurd (omega (arith, v.0))) (two_brought R s t v.0 v.1)
+      (λ f. absurd (false≢true f)) (λ _. l))
+      (λ c. subst (Accepts R _ _ _) same (through ss c (suc j) s' t' (since ++ s ∷ t ∷ []) v.2 (omega arith)))
 
   -- A stream from its first group on, where the leading symbol is no mark.
-  from_start : (ss : List ℕ) (y : ℕ) (ys : List ℕ) → Ended m ss → length ss ≤ 2 * R.steps → y < R.spill 0 → hands_over R (lead_symbol R.lead y) ≡ (ys, false) →
-      Accepts R started [] (closed R 0 y ss) (ys ++ until_mark m ss)
+  from_start : (ss : List ℕ) (y : ℕ) (ys : List ℕ) → Ended (m R) ss → length ss ≤ 2 * R.steps → y < R.spill 0 →
+      hands_over R (lead_symbol R.lead y) ≡ (ys, false) → Accepts R started [] (closed R 0 y ss) (ys ++ until_mark (m R) ss)
   from_start [] y ys v h hy is = absurd v
   from_start (s ∷ []) y ys v h hy is = absurd v
   from_start (s ∷ t ∷ ss) y ys v h hy is =
-      let p = first_pass R 0 s t in
-      let low = law.carrier_low 0 (omega arith) in
-      let carrier : p.0 < R.carrier 0 = mod-lt _ (omega arith) in
-      let w = p.0 * R.spill 0 + y in
-      group_on R 0 0 w (group_below R law 0 p.0 y (omega arith) carrier hy) 0 ys [] (closed R 1 p.1 ss) (ys ++ until_mark m (s ∷ t ∷ ss))
-      (lead_answers 0 p.0 y ys false hy (below_limit 0 p.0 (omega arith) carrier) is refl)
-      (λ c. subst (λ (r : ℕ). Accepts R (record { count = c; half = First 1 r }) ys (closed R 1 p.1 ss) (ys ++ until_mark m (s ∷ t ∷ ss)))
-      (sym (ap (λ (q : ℕ × ℕ). q.0) ((passes_taken_back R).second 0 p.0 y hy)))
-      (through ss c 0 s t ys v (omega arith)))
+      pair_taken 0 0 0 y s t ys [] ss _ (omega arith) hy (λ r p hr. lead_answers r y p _ hy hr is (λ f. absurd (false≢true f)))
+      (λ c. through ss c 0 s t ys v (omega arith))
 
-  -- The blocks stand before the marks.
-  until_blocks : (xs ms : List ℕ) → AllByRecursion (λ x. x < R.base) xs → (rest : List ℕ) → ms ≡ m ∷ rest → until_mark m (xs ++ ms) ≡ xs
-  until_blocks [] ms b rest e = ap (until_mark m) e ∙ (let a = is_eqb m m refl in rw a refl)
-  until_blocks (x ∷ xs) ms b rest e =
-      let a = not_eqb x m (λ q. omega (arith, b.0)) in
-      rw a (ap (λ (ys : List ℕ). x ∷ ys) (until_blocks xs ms b.1 rest e))
+  abbrev Accepted : ℕ → Type 0
+  Accepted l = (xs : List ℕ) → Valid R xs → Accepts R started [] (stream_at R law l xs) xs
 
-  until_marks : (xs : List ℕ) (n : ℕ) → AllByRecursion (λ x. x < R.base) xs → until_mark m (xs ++ marks R n) ≡ xs
-  until_marks xs n b =
-      let k = marked_as R law.lead_high n in
-      let f = first_mark R law (marks R n) k.some k.marks_are in
-      until_blocks xs (marks R n) b f.0 f.1
+  accepted_alone : R.lead ≡ 0 → Accepted 0
+  accepted_alone e xs v =
+      subst (Accepts R started [] (closed R 0 0 (symbols R xs))) (until_marks R xs (length xs) v.below)
+      (from_start (symbols R xs) 0 [] (tail_ended R law xs (length xs) v.below (omega arith)) (omega (arith, (symbols_fit R law xs v).fits))
+      (omega (arith, law.first_spill_alone e)) (ap (λ (l : ℕ). hands_over R (lead_symbol l 0)) e))
 
-  accepts_at : (l : ℕ) → R.lead ≡ l → (xs : List ℕ) → Valid R xs → Accepts R started [] (closed R 0 (first_spill l (symbols R xs)) (drop l (symbols R xs))) xs
-  accepts_at zero e xs v =
-      let low : 0 < R.spill 0 = omega (arith, law.first_spill_alone e) in
-      subst (Accepts R started [] (closed R 0 0 (symbols R xs))) (until_marks xs (length xs) v.below)
-      (from_start (symbols R xs) 0 [] (tail_ended R law xs (length xs) v.below (omega arith)) (omega (arith, tail_fits R law xs (length xs) (omega arith) (omega (arith, v.few, law.steps_low))))
-      low (ap (λ (l : ℕ). hands_over R (lead_symbol l 0)) e))
-  accepts_at (suc zero) e [] v =
-      let even : (0 + 1 - R.lead) % 2 ≡ 0 = omega arith in
-      let is : symbols R [] ≡ m ∷ [] = ap (λ (k : ℕ). elim k [ zero ↦ m ∷ [] | suc _ ↦ m ∷ m ∷ [] ]) even in
-      let mark = is_eqb m m refl in
-      let top : m < R.spill 0 = omega (arith, law.first_spill_lead e) in
-      subst (λ (ss : List ℕ). Accepts R started [] (closed R 0 (first_spill 1 ss) (drop 1 ss)) []) (sym is)
-      (group_ends R 0 0 (0 * R.spill 0 + m) (closing_below R law 0 m (omega arith) (omega arith) top) 0 [] [] (omega arith)
-      (lead_answers 0 0 m [] true top (zero_below_limit 0 (omega arith)) (ap (λ (l : ℕ). hands_over R (lead_symbol l m)) e ∙ (rw mark refl)) refl))
-  accepts_at (suc zero) e (x ∷ xs) v =
-      let top = law.first_spill_lead e in
-      let other = not_eqb x m (λ q. omega (arith, v.below.0)) in
-      subst (Accepts R started [] (closed R 0 x (xs ++ marks R (length (x ∷ xs))))) (ap (λ (ys : List ℕ). x ∷ ys) (until_marks xs (length (x ∷ xs)) v.below.1))
-      (from_start (xs ++ marks R (length (x ∷ xs))) x (x ∷ []) (tail_ended R law xs (length (x ∷ xs)) v.below.1 (omega arith))
-      (omega (arith, tail_fits R law xs (length (x ∷ xs)) (omega arith) (omega (arith, v.few, law.steps_low)))) (omega (arith, v.below.0))
-      (ap (λ (l : ℕ). hands_over R (lead_symbol l x)) e ∙ (rw other refl)))
-  accepts_at (suc (suc l)) e xs v = absurd (omega (arith, law.lead_high))
+  accepted_led : R.lead ≡ 1 → Accepted 1
+  accepted_led e [] v =
+      let top : m R < R.spill 0 = omega (arith, law.first_spill_lead e) in
+      subst (λ (ss : List ℕ). Accepts R started [] (closed R 0 (get_or ss 0 0) (drop 1 ss)) []) (sym (symbols_lone R e))
+      (closing_taken 0 0 0 (m R) [] [] (omega arith) (omega arith) top
+      (λ p hr. lead_answers 0 (m R) p _ top hr (ap (λ (l : ℕ). hands_over R (lead_symbol l (m R))) e ∙ rw (eq-eqb (m R) (m R) refl) refl) (λ _. refl)))
+  accepted_led e (x ∷ xs) v =
+      let n = length (x ∷ xs) in
+      subst (Accepts R started [] (closed R 0 x (xs ++ marks R n))) (ap (λ (ys : List ℕ). x ∷ ys) (until_marks R xs n v.below.1))
+      (from_start (xs ++ marks R n) x (x ∷ []) (tail_ended R law xs n v.below.1 (omega arith))
+      (omega (arith, (symbols_fit R law (x ∷ xs) v).fits)) (omega (arith, law.first_spill_lead e, v.below.0))
+      (ap (λ (l : ℕ). hands_over R (lead_symbol l x)) e ∙ rw (no_mark R x v.below.0) refl))
 
   pub stream_accepted : (xs : List ℕ) → Valid R xs → Accepts R started [] (stream R xs) xs
-  stream_accepted = accepts_at R.lead refl
+  stream_accepted = by_lead Accepted R law accepted_alone accepted_led

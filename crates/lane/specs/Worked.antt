@@ -13,7 +13,7 @@ abbrev pub answer : Ranges → Reading → ℕ → Result (List ℕ × Bool) (�
 answer R g b = judged (take_rows R g b) (take_brings R g b)
 
 abbrev pub left : Ranges → Reading → ℕ → Result (List ℕ × Bool) (ℕ × ℕ) → Reading
-left R g b (Ok x) = after_whole R g b (completes R.lead R.base g.half b) x.1
+left R g b (Ok x) = after_whole R g b (completes R.lead R.base g.step g.low b) x.1
 left R g b (Err e) = g
 
 abbrev pub answers : Ranges → Reading → List ℕ → List (Result (List ℕ × Bool) (ℕ × ℕ))

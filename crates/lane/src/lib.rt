@@ -9,7 +9,7 @@ ghost use Rattle.lane.specs.Laws.{StreamsAndRecordingsAgree};
 ghost use Rattle.lane.specs.Worked.{Worked};
 
 use reader::reader::Reader;
-use schedule::interface::{Schedule, longest};
+use schedule::interface::Schedule;
 use writer::recording::Recording;
 
 // A new recording and a new reader on one schedule.
@@ -27,5 +27,5 @@ pub fn longest_recording<S: Schedule>(schedule: &S) -> u64
     ensures longest { result ≡ longest (S.ranges schedule.now) }
     ensures agree { StreamsAndRecordingsAgree (S.ranges schedule.now) }
 {
-    longest(schedule)
+    schedule.longest()
 }

@@ -1,3 +1,4 @@
-pub mod Tests
+pub mod Naming
+pub mod Limits
 pub mod Pairs
 pub mod Taking

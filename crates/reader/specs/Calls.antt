@@ -5,9 +5,8 @@ use Rattle.schedule.specs.Faults.{number_place, says, judged}
 use Rattle.schedule.specs.Ranges.{Ranges}
 use Rattle.writer.specs.Passes.{second_pass_back}
 use Rattle.reader.specs.declared.reading.Brought.{Brought}
-use Rattle.reader.specs.declared.reading.Half.TheVariants.{First, Second}
 use Rattle.reader.specs.declared.reading.Reading.{Reading}
-use Rattle.reader.specs.Reading.{brought, completes, step_of, before_of, found, hands_over, group_rows, started, InRange}
+use Rattle.reader.specs.Reading.{brought, completes, found, hands_over, group_rows, started, InRange}
 
 -- An answer by what it brings, with its fault as number and place.
 abbrev pub says_brought : Result Brought Fault → Result (List ℕ × Bool) (ℕ × ℕ)
@@ -17,31 +16,31 @@ says_brought (Err f) = Err (number_place f)
 -- What a block is answered that completes the group of the number w, or none: the refusals, and what it brings.
 abbrev pub whole_rows : Ranges → Reading → Option ℕ → List (ℕ × ℕ × Bool)
 whole_rows R g None = []
-whole_rows R g (Some w) = group_rows R g.count (step_of g.half) (before_of g.half) w
+whole_rows R g (Some w) = group_rows R g.count g.step g.before w
 
 abbrev pub whole_brings : Ranges → Reading → Option ℕ → List ℕ × Bool
 whole_brings R g None = ([], false)
-whole_brings R g (Some w) = hands_over R (found R (step_of g.half) (before_of g.half) w)
+whole_brings R g (Some w) = hands_over R (found R g.step g.before w)
 
 abbrev pub take_rows : Ranges → Reading → ℕ → List (ℕ × ℕ × Bool)
-take_rows R g b = (20, g.count, nat_le R.base b) ∷ whole_rows R g (completes R.lead R.base g.half b)
+take_rows R g b = (20, g.count, nat_le R.base b) ∷ whole_rows R g (completes R.lead R.base g.step g.low b)
 
 abbrev pub take_brings : Ranges → Reading → ℕ → List ℕ × Bool
-take_brings R g b = whole_brings R g (completes R.lead R.base g.half b)
+take_brings R g b = whole_brings R g (completes R.lead R.base g.step g.low b)
 
 -- The reader behind the group of the number w: new where an end came.
 abbrev pub after_group : Ranges → Reading → ℕ → Bool → Reading
 after_group R g w true = started
 after_group R g w false =
-    record { count = g.count + 1; half = First (suc (step_of g.half)) (second_pass_back R (step_of g.half) w).0 }
+    record { count = g.count + 1; step = suc g.step; before = (second_pass_back R g.step w).0; low = None }
 
 -- The reader after an accepted block: inside a group, or behind the group that the block completes.
 abbrev pub after_whole : Ranges → Reading → ℕ → Option ℕ → Bool → Reading
-after_whole R g b None end = record { count = g.count + 1; half = Second (step_of g.half) (before_of g.half) b }
+after_whole R g b None end = record { count = g.count + 1; step = g.step; before = g.before; low = Some b }
 after_whole R g b (Some w) end = after_group R g w end
 
 abbrev pub after_take : Ranges → Reading → ℕ → Result Brought Fault → Reading
-after_take R g b (Ok x) = after_whole R g b (completes R.lead R.base g.half b) (brought x).1
+after_take R g b (Ok x) = after_whole R g b (completes R.lead R.base g.step g.low b) (brought x).1
 after_take R g b (Err f) = g
 
 -- The promises of take and stop: reader g before, g' after. A refusal leaves the reader as it was.

@@ -1,11 +1,10 @@
 -- What a reader holds, and what a group makes known.
-use Rattle.std.specs.Prelude.{◌≡◌, ℕ, zero, suc, ◌+◌, ◌-◌, ◌*◌, ◌<◌, ◌≤◌, Bool, true, false, cond, not, ◌&&◌, ◌||◌, List, [], ◌∷◌, ◌++◌, Some, None, Option, ◌==◌}
+use Rattle.std.specs.Prelude.{◌≡◌, ℕ, zero, suc, ◌+◌, ◌-◌, ◌*◌, ◌<◌, ◌≤◌, Bool, true, false, cond, not, ◌&&◌, ◌||◌, List, [], ◌∷◌, ◌++◌, codes, Some, None, Option, ◌==◌}
+use Rattle.std.specs.Fmt.{decimal}
 use Rattle.schedule.specs.Ranges.{Ranges, end_mark}
 use Rattle.writer.specs.Passes.{pair_number, pair_of, second_pass_back}
 use Rattle.reader.specs.declared.reading.Brought.{Brought}
 use Rattle.reader.specs.declared.reading.Brought.TheVariants.{Nothing, One, Two, End, OneThenEnd}
-use Rattle.reader.specs.declared.reading.Half.{Half}
-use Rattle.reader.specs.declared.reading.Half.TheVariants.{First, Second}
 use Rattle.reader.specs.declared.reading.Reading.{Reading}
 use Rattle.reader.specs.Back.{carrier_rows, pair_rows}
 
@@ -17,21 +16,20 @@ brought (Two x y) = (x ∷ y ∷ [], false)
 brought End = ([], true)
 brought (OneThenEnd x) = (x ∷ [], true)
 
+-- What a block brings, as it is printed: the blocks, and / for an end; - for nothing.
+abbrev pub printed : Brought → List ℕ
+printed Nothing = codes "-"
+printed (One x) = decimal x
+printed (Two x y) = decimal x ++ (codes " " ++ decimal y)
+printed End = codes "/"
+printed (OneThenEnd x) = decimal x ++ codes " /"
+
 -- The number of the group that block b completes, if it completes one. Group 0 with lead 0 is a single block.
-abbrev pub completes : (lead base : ℕ) → Half → ℕ → Option ℕ
-completes zero base (First zero before) b = Some b
-completes (suc _) base (First zero before) b = None
-completes lead base (First (suc j) before) b = None
-completes lead base (Second j before low) b = Some (b * base + low)
-
--- The group's step j, and the carrier r(j − 1) of the group before.
-abbrev pub step_of : Half → ℕ
-step_of (First j before) = j
-step_of (Second j before low) = j
-
-abbrev pub before_of : Half → ℕ
-before_of (First j before) = before
-before_of (Second j before low) = before
+abbrev pub completes : (lead base step : ℕ) → Option ℕ → ℕ → Option ℕ
+completes zero base zero None b = Some b
+completes (suc _) base zero None b = None
+completes lead base (suc j) None b = None
+completes lead base j (Some low) b = Some (b * base + low)
 
 -- The pair before group j, at its number z, for j from 1.
 abbrev pub pair_before : Ranges → ℕ → ℕ → ℕ → ℕ
@@ -73,32 +71,32 @@ group_rows R place j before w =
 
 -- A new reader.
 abbrev pub started : Reading
-started = record { count = 0; half = First 0 0 }
+started = record { count = 0; step = 0; before = 0; low = None }
 
 -- A reader's numbers in range.
 abbrev pub BeforeBelow : Ranges → ℕ → ℕ → Type 0
 BeforeBelow R zero before = before ≡ 0
 BeforeBelow R (suc i) before = before < R.carrier i
 
-abbrev pub HalfBelow : Ranges → Half → Type 0
-HalfBelow R (First j before) = BeforeBelow R j before
-HalfBelow R (Second j before low) = BeforeBelow R j before × (low < R.base) × (1 ≤ j + R.lead)
+abbrev pub LowBelow : Ranges → ℕ → Option ℕ → Type 0
+LowBelow R j None = Unit {0}
+LowBelow R j (Some low) = (low < R.base) × (1 ≤ j + R.lead)
 
-abbrev pub blocks_of_half : Half → ℕ
-blocks_of_half (First j before) = 0
-blocks_of_half (Second j before low) = 1
+abbrev pub blocks_of : Option ℕ → ℕ
+blocks_of None = 0
+blocks_of (Some low) = 1
 
 pub record InRange (R : Ranges) (g : Reading) : Type 0 where
-  pub step_high : step_of g.half ≤ R.steps
-  pub half_below : HalfBelow R g.half
-  pub counted : g.count ≡ 2 * step_of g.half + R.lead - 1 + blocks_of_half g.half
+  pub step_high : g.step ≤ R.steps
+  pub before_below : BeforeBelow R g.step g.before
+  pub low_below : LowBelow R g.step g.low
+  pub counted : g.count ≡ 2 * g.step + R.lead - 1 + blocks_of g.low
 
 -- Sizes that hold in every state, whatever the schedule, so that no sum overflows.
-abbrev pub low_of : Half → ℕ
-low_of (First j before) = 0
-low_of (Second j before low) = low
+abbrev pub low_of : Option ℕ → ℕ
+low_of None = 0
+low_of (Some low) = low
 
 abbrev pub Small : Reading → Type 0
 Small g =
-    (step_of g.half ≤ 65535) × (before_of g.half ≤ 16777217) × (low_of g.half ≤ 16777216)
-    × (g.count ≤ 2 * step_of g.half + 1 + blocks_of_half g.half)
+    (g.step ≤ 65535) × (g.before ≤ 16777217) × (low_of g.low ≤ 16777216) × (g.count ≤ 2 * g.step + 1 + blocks_of g.low)

@@ -1,11 +1,12 @@
-// The passes taken back, over any schedule. `place` is the place of a refusal.
+// The passes taken back, over any schedule. `place` is the place of a refusal. They are no methods of a struct of
+// schedule, step and place, since each call has another step or place, and would make one for itself.
 ghost use Rattle.std.specs.Prelude.{◌≡◌};
 ghost use Rattle.schedule.specs.Faults.{says, judged};
 ghost use Rattle.writer.specs.Passes.{pair_number, pair_of, second_pass_back};
 ghost use Rattle.reader.specs.Back.{limit, carrier_rows, pair_rows};
 
 use schedule::fault::{Fault, FirstPassFault, SecondPassFault};
-use schedule::interface::{Schedule, alphabet, end_mark};
+use schedule::interface::Schedule;
 
 // The limit of the carrier of group j: 0 where there is no such group.
 fn limit<S: Schedule>(schedule: &S, j: u64) -> u64
@@ -27,15 +28,12 @@ pub fn second_pass_back<S: Schedule>(
 ) -> Result<(u64, u64), Fault>
     ensures { says result ≡ judged (carrier_rows (S.ranges schedule.now) place j w) (second_pass_back (S.ranges schedule.now) j w) }
 {
-    let limit = limit(schedule, j);
-    if limit > 0 {
-        let range = schedule.spill(j);
-        let (carrier, spill) = (w / range, w % range);
-        if carrier < limit {
-            return Ok((carrier, spill));
-        }
+    let range = schedule.spill(j);
+    if range > 0 && w / range < limit(schedule, j) {
+        Ok((w / range, w % range))
+    } else {
+        Err(Fault::SecondPass(SecondPassFault::CarrierBeyondRange(place)))
     }
-    Err(Fault::SecondPass(SecondPassFault::CarrierBeyondRange(place)))
 }
 
 // The pair of the carrier r(j) and the spill y(j + 1). Refuses with 22, then with 23.
@@ -48,8 +46,8 @@ pub fn first_pass_back<S: Schedule>(
 ) -> Result<(u64, u64), Fault>
     ensures { says result ≡ judged (pair_rows (S.ranges schedule.now) place (pair_number (S.ranges schedule.now) j carrier spill)) (pair_of (S.ranges schedule.now) (pair_number (S.ranges schedule.now) j carrier spill)) }
 {
-    let symbols = alphabet(schedule);
-    let mark = end_mark(schedule);
+    let symbols = schedule.alphabet();
+    let mark = schedule.end_mark();
     let z = spill
         .saturating_mul(schedule.carrier(j))
         .saturating_add(carrier);

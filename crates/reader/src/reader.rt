@@ -3,99 +3,13 @@ ghost use Rattle.std.specs.Prelude.{◌≡◌, ℕ, ◌+◌, ◌<◌, Ok, Err, M
 ghost use Rattle.schedule.specs.Faults.{says, judged};
 ghost use Rattle.writer.specs.Passes.{second_pass_back};
 ghost use Rattle.reader.specs.Back.{PassesAnswer};
-ghost use Rattle.reader.specs.Reading.{Small, InRange, started, step_of, before_of, brought, found, hands_over, pair_rows_before, closing_rows, group_rows};
-ghost use Rattle.reader.specs.Calls.{says_brought, after_group, Takes, Stops};
+ghost use Rattle.reader.specs.Reading.{Small, InRange, started, brought, pair_rows_before, closing_rows};
+ghost use Rattle.reader.specs.Calls.{says_brought, whole_rows, whole_brings, after_group, Takes, Stops};
 
 use crate::back::{first_pass_back, second_pass_back};
-use crate::reading::{Brought, Half, Reading};
-use schedule::fault::{ClosingFault, Fault, SecondPassFault};
-use schedule::interface::{Schedule, end_mark};
-
-// What group j of the number w makes known, where `spill` is its spill and `before` the carrier of the group before.
-fn known<S: Schedule>(
-    schedule: &S,
-    j: u64,
-    before: u64,
-    spill: u64,
-    place: u64,
-) -> Result<Brought, Fault>
-    ensures { (w : ℕ) → spill ≡ (second_pass_back (S.ranges schedule.now) j w).1 → says_brought result ≡ judged (pair_rows_before (S.ranges schedule.now) place j before w) (hands_over (S.ranges schedule.now) (found (S.ranges schedule.now) j before w)) }
-{
-    let mark = end_mark(schedule);
-    if j == 0 {
-        return if schedule.lead() == 0 {
-            Ok(Brought::Nothing)
-        } else if spill == mark {
-            Ok(Brought::End)
-        } else {
-            Ok(Brought::One(spill))
-        };
-    }
-    let (s, t) = first_pass_back(schedule, j - 1, before, spill, place)?;
-    if s == mark {
-        Ok(Brought::End)
-    } else if t == mark {
-        Ok(Brought::OneThenEnd(s))
-    } else {
-        Ok(Brought::Two(s, t))
-    }
-}
-
-// Whether an end comes.
-fn ends(what: Brought) -> bool
-    ensures { result ≡ (brought what).1 }
-{
-    match what {
-        Brought::End | Brought::OneThenEnd(_) => true,
-        Brought::Nothing | Brought::One(_) | Brought::Two(_, _) => false,
-    }
-}
-
-// Whether a stream may end, or go on, behind group j of this carrier.
-fn check_closing<S: Schedule>(
-    schedule: &S,
-    j: u64,
-    carrier: u64,
-    end: bool,
-    place: u64,
-) -> Result<(), Fault>
-    ensures { says result ≡ judged (closing_rows (S.ranges schedule.now) place j carrier end) tt }
-{
-    if end {
-        if carrier != 0 {
-            return Err(Fault::Closing(ClosingFault::ClosingNotZero(place)));
-        }
-    } else if j == schedule.steps() {
-        return Err(Fault::Closing(ClosingFault::NoMark(place)));
-    }
-    Ok(())
-}
-
-// Group j of the number w is complete: its carrier, and what it brings.
-fn complete<S: Schedule>(
-    schedule: &S,
-    j: u64,
-    before: u64,
-    w: u64,
-    place: u64,
-) -> Result<(u64, Brought), Fault>
-    ensures { MatchResult result (λ p. (Ok (brought p.1) ≡ judged (group_rows (S.ranges schedule.now) place j before w) (hands_over (S.ranges schedule.now) (found (S.ranges schedule.now) j before w))) × (p.0 ≡ (second_pass_back (S.ranges schedule.now) j w).0)) (λ f. says_brought (Err f) ≡ judged (group_rows (S.ranges schedule.now) place j before w) (hands_over (S.ranges schedule.now) (found (S.ranges schedule.now) j before w))) }
-{
-    let (carrier, spill) = second_pass_back(schedule, j, w, place)?;
-    let what = known(schedule, j, before, spill, place)?;
-    check_closing(schedule, j, carrier, ends(what), place)?;
-    Ok((carrier, what))
-}
-
-// Before the first block of a stream.
-fn at_start() -> Reading
-    ensures { result ≡ started }
-{
-    Reading {
-        count: 0,
-        half: Half::First(0, 0),
-    }
-}
+use crate::reading::{Brought, Reading};
+use schedule::fault::{ClosingFault, Fault, Refused, SecondPassFault};
+use schedule::interface::Schedule;
 
 // A reader on a schedule.
 #[derive(Drop)]
@@ -107,6 +21,7 @@ pub struct Reader<S: Schedule> {
 
 impl<S: Schedule> Reader<S> {
     // A reader at the start of a stream.
+    #[tactic(auto, using(crate::proofs::Pairs::passes_answer))]
     pub fn new(schedule: S) -> Reader<S>
         ensures schedule { result.schedule ≡ schedule }
         ensures started { (result.reading ≡ started) × InRange (S.ranges schedule) result.reading }
@@ -114,7 +29,7 @@ impl<S: Schedule> Reader<S> {
     {
         Reader {
             schedule,
-            reading: at_start(),
+            reading: Reading::START,
         }
     }
 
@@ -127,63 +42,101 @@ impl<S: Schedule> Reader<S> {
         let base = self.schedule.base();
         let lead = self.schedule.lead();
         let place = self.reading.count;
-        match (self.reading.half, block) {
+        match (self.reading, block) {
             (_, block) if block >= base => {
                 Err(Fault::SecondPass(SecondPassFault::TakenTooLarge(place)))
             }
-            (Half::First(step, before), low) if step + lead > 0 => {
-                self.reading = Reading {
-                    count: place + 1,
-                    half: Half::Second(step, before, low),
-                };
+            (
+                Reading {
+                    step,
+                    low: None,
+                    ..
+                },
+                low,
+            ) if step + lead > 0 => {
+                self.reading.count = place + 1;
+                self.reading.low = Some(low);
                 Ok(Brought::Nothing)
             }
-            (Half::First(step, before), only) => self.go_on(step, before, only),
-            (Half::Second(step, before, low), high) => self.go_on(step, before, high * base + low),
+            (Reading { low: None, .. }, only) => self.go_on(only),
+            (Reading { low: Some(low), .. }, high) => self.go_on(high * base + low),
         }
     }
 
-    // Group `step` of the number w is complete.
-    fn go_on(&mut self, step: u64, before: u64, w: u64) -> Result<Brought, Fault>
-        requires { (step ≡ step_of self.old.reading.half) × (before ≡ before_of self.old.reading.half) }
-        ensures schedule { self.new.schedule ≡ self.old.schedule }
-        ensures answers { says_brought result ≡ judged (group_rows (S.ranges self.old.schedule) self.old.reading.count step before w) (hands_over (S.ranges self.old.schedule) (found (S.ranges self.old.schedule) step before w)) }
-        ensures leaves { MatchResult result (λ x. self.new.reading ≡ after_group (S.ranges self.old.schedule) self.old.reading w (brought x).1) (λ _. self.new.reading ≡ self.old.reading) }
-    {
-        let place = self.reading.count;
-        let (carrier, what) = complete(&self.schedule, step, before, w, place)?;
-        self.reading = if ends(what) {
-            at_start()
-        } else {
-            Reading {
-                count: place + 1,
-                half: Half::First(step + 1, carrier),
-            }
-        };
-        Ok(what)
-    }
-
     // Ends the reading, and uses the reader up. Refuses with 26 inside a stream, and then hands the reader back.
-    pub fn stop(self) -> Result<(), RefusedStop<S>>
+    pub fn stop(self) -> Result<(), Refused<Reader<S>>>
     where
         S: Drop,
-        ensures { MatchResult result (λ u. Stops self.reading (Ok u) self.reading) (λ e. Stops self.reading (Err e.fault) e.reader.reading × (e.reader.schedule ≡ self.schedule)) }
+        ensures { MatchResult result (λ u. Stops self.reading (Ok u) self.reading) (λ e. Stops self.reading (Err e.fault) e.kept.reading × (e.kept.schedule ≡ self.schedule)) }
     {
         let place = self.reading.count;
         if place == 0 {
             Ok(())
         } else {
-            Err(RefusedStop {
-                reader: self,
+            Err(Refused {
+                kept: self,
                 fault: Fault::Closing(ClosingFault::CutShort(place)),
             })
         }
     }
-}
 
-// A refused stop: the reader, as it was, and the fault.
-#[derive(Drop)]
-pub struct RefusedStop<S: Schedule> {
-    pub reader: Reader<S>,
-    pub fault: Fault,
+    // The group is complete, and w is its number.
+    fn go_on(&mut self, w: u64) -> Result<Brought, Fault>
+        ensures schedule { self.new.schedule ≡ self.old.schedule }
+        ensures answers { let R = S.ranges self.old.schedule in let g = self.old.reading in says_brought result ≡ judged (whole_rows R g (Some w)) (whole_brings R g (Some w)) }
+        ensures leaves { let R = S.ranges self.old.schedule in let g = self.old.reading in MatchResult result (λ x. self.new.reading ≡ after_group R g w (brought x).1) (λ _. self.new.reading ≡ g) }
+    {
+        let Reading { count, step, .. } = self.reading;
+        let (carrier, spill) = second_pass_back(&self.schedule, step, w, count)?;
+        let what = self.known(spill)?;
+        self.check_closing(carrier, what.ends())?;
+        self.reading = if what.ends() {
+            Reading::START
+        } else {
+            Reading {
+                count: count + 1,
+                step: step + 1,
+                before: carrier,
+                low: None,
+            }
+        };
+        Ok(what)
+    }
+
+    // What the group of this spill makes known.
+    fn known(&self, spill: u64) -> Result<Brought, Fault>
+        ensures { let R = S.ranges self.now.schedule in let g = self.now.reading in (w : ℕ) → spill ≡ (second_pass_back R g.step w).1 → says_brought result ≡ judged (pair_rows_before R g.count g.step g.before w) (whole_brings R g (Some w)) }
+    {
+        let Reading {
+            count,
+            step,
+            before,
+            ..
+        } = self.reading;
+        let mark = self.schedule.end_mark();
+        match step {
+            0 if self.schedule.lead() == 0 => Ok(Brought::Nothing),
+            0 if spill == mark => Ok(Brought::End),
+            0 => Ok(Brought::One(spill)),
+            _ => match first_pass_back(&self.schedule, step - 1, before, spill, count)? {
+                (s, _) if s == mark => Ok(Brought::End),
+                (s, t) if t == mark => Ok(Brought::OneThenEnd(s)),
+                (s, t) => Ok(Brought::Two(s, t)),
+            },
+        }
+    }
+
+    // Whether a stream may end, or go on, behind the group of this carrier.
+    fn check_closing(&self, carrier: u64, end: bool) -> Result<(), Fault>
+        ensures { let R = S.ranges self.now.schedule in let g = self.now.reading in says result ≡ judged (closing_rows R g.count g.step carrier end) tt }
+    {
+        let Reading { count, step, .. } = self.reading;
+        if end && carrier != 0 {
+            Err(Fault::Closing(ClosingFault::ClosingNotZero(count)))
+        } else if !end && step == self.schedule.steps() {
+            Err(Fault::Closing(ClosingFault::NoMark(count)))
+        } else {
+            Ok(())
+        }
+    }
 }

@@ -1,5 +1,10 @@
+ghost use Rattle.std.specs.Prelude.{◌≡◌, Some};
+ghost use Rattle.reader.specs.Reading.{brought, printed, started};
+
+use std::fmt;
+
 // What a block brings.
-#[derive(Clone, Copy, Debug)]
+#[derive(Clone, Copy, Debug, PartialEq, Eq)]
 pub enum Brought {
     Nothing,
     One(u64),
@@ -8,17 +13,46 @@ pub enum Brought {
     OneThenEnd(u64),
 }
 
-// Which block of a group comes next, with the group's step and the carrier of the group before; inside a group, its
-// first block too.
-#[derive(Clone, Copy)]
-pub enum Half {
-    First(u64, u64),
-    Second(u64, u64, u64),
+impl Brought {
+    // Whether an end comes.
+    pub fn ends(&self) -> bool
+        ensures { result ≡ (brought self.now).1 }
+    {
+        matches!(self, Brought::End | Brought::OneThenEnd(_))
+    }
 }
 
-// What a reader holds: the count of blocks accepted since it was new or since its last end, and where it stands.
-#[derive(Clone, Copy)]
+// Its blocks, and / for an end; - for nothing.
+impl fmt::Display for Brought {
+    ghost output = { λ what. Some (printed what) };
+
+    fn fmt<W: fmt::Write>(&self, f: &mut fmt::Formatter<W>) -> fmt::Result {
+        match self {
+            Brought::Nothing => write!(f, "-"),
+            Brought::One(block) => write!(f, "{block}"),
+            Brought::Two(first, second) => write!(f, "{first} {second}"),
+            Brought::End => write!(f, "/"),
+            Brought::OneThenEnd(block) => write!(f, "{block} /"),
+        }
+    }
+}
+
+// What a reader holds: the count of blocks accepted since it was new or since its last end, and the group that comes
+// next: its step, the carrier of the group before, and its first block, where that was taken.
+#[derive(Clone, Copy, Debug, PartialEq, Eq)]
 pub struct Reading {
     pub(crate) count: u64,
-    pub(crate) half: Half,
+    pub(crate) step: u64,
+    pub(crate) before: u64,
+    pub(crate) low: Option<u64>,
+}
+
+impl Reading {
+    // Before the first block of a stream.
+    pub(crate) const START: Reading = Reading {
+        count: 0,
+        step: 0,
+        before: 0,
+        low: None,
+    };
 }

@@ -27,14 +27,15 @@ pub judged_as : {X Y : Type 0} (rows : List (ℕ × ℕ × Bool)) (x y : X) (a b
 judged_as rows x y a b e f = ap Ok f ∙ sym (clear_judged rows a (judged_clear rows x y e).0)
 
 -- Rows behind others are tried where none of those holds.
+pub clear_then : {X : Type 0} (rows more : List (ℕ × ℕ × Bool)) (x : X) → Clear rows → judged (rows ++ more) x ≡ judged more x
+clear_then [] more x c = refl
+clear_then (row ∷ rows) more x c = rw c.0 (clear_then rows more x c.1)
+
 pub judged_then : {X Y : Type 0} (rows more : List (ℕ × ℕ × Bool)) (x : X) (y y' : Y) → Ok y' ≡ judged rows y →
     judged (rows ++ more) x ≡ judged more x
-judged_then rows more x y y' e = go rows (judged_clear rows y y' e).0
-  where
-    go : (rs : List (ℕ × ℕ × Bool)) → Clear rs → judged (rs ++ more) x ≡ judged more x
-    go [] c = refl
-    go (r ∷ rs) c = rw c.0 (go rs c.1)
+judged_then rows more x y y' e = clear_then rows more x (judged_clear rows y y' e).0
 
+-- A row that holds is the answer, whatever stands behind it.
 pub judged_stops : {X Y : Type 0} (rows more : List (ℕ × ℕ × Bool)) (x : X) (y : Y) (e : ℕ × ℕ) → Err e ≡ judged rows y →
     judged (rows ++ more) x ≡ Err e
 judged_stops [] more x y e f = let z : ◌≡◌ {A = ℕ} 0 1 = cc in absurd (omega arith)

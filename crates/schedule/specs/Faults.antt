@@ -1,5 +1,6 @@
 -- The refusal table: the number that each fault returns, and its place.
-use Rattle.std.specs.Prelude.{ℕ, Bool, true, false, List, [], ◌∷◌, Ok, Err, Result}
+use Rattle.std.specs.Prelude.{ℕ, Bool, true, false, List, [], ◌∷◌, ◌++◌, codes, Ok, Err, Result}
+use Rattle.std.specs.Fmt.{decimal}
 use Rattle.schedule.specs.declared.fault.Fault.{Fault}
 use Rattle.schedule.specs.declared.fault.Fault.TheVariants.{Schedule, Piece, SecondPass, FirstPass, Closing, Lookup}
 use Rattle.schedule.specs.declared.fault.ScheduleFault.TheVariants.{WidthUnknown}
@@ -24,6 +25,10 @@ number_place (Closing (CutShort p)) = (26, p)
 number_place (Lookup (NoSuchPlace p)) = (30, p)
 number_place (Piece WidthHasNoBytes) = (40, 0)
 number_place (Piece (PackingTooShort p)) = (41, p)
+
+-- A fault as it is printed: X, its number and its place.
+abbrev pub printed : Fault → List ℕ
+printed fault = codes "X " ++ (decimal (number_place fault).0 ++ (codes " " ++ decimal (number_place fault).1))
 
 -- An answer with its fault as number and place.
 abbrev pub says : {X : Type 0} → Result X Fault → Result X (ℕ × ℕ)

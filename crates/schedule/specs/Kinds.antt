@@ -1,5 +1,5 @@
 -- The ranges of SOLE and LOSE at each width.
-use Rattle.std.specs.Prelude.{ℕ, suc, ◌+◌, ◌-◌, ◌*◌, ◌^◌, ◌<◌, Bool, true, cond, ◌==◌, nat_le, nat_lt}
+use Rattle.std.specs.Prelude.{ℕ, suc, ◌+◌, ◌-◌, ◌*◌, ◌^◌, ◌<◌, Bool, true, false, cond, ◌==◌, nat_le, nat_lt}
 use Rattle.schedule.specs.Ranges.{Ranges, alphabet}
 
 -- Ranges that leave the base by four more at each step: C(j) = B − u and Y(j) = B + u, where u is 4j + lead.
@@ -32,6 +32,11 @@ sole width = fourfold (2 ^ width) 0 (sole_steps width)
 
 abbrev pub lose : ℕ → Ranges
 lose width = fourfold (2 ^ width) 1 (lose_steps width)
+
+-- The ranges of LOSE where a symbol leads, and of SOLE where none does.
+abbrev pub kind : (led : Bool) → ℕ → Ranges
+kind false width = sole width
+kind true width = lose width
 
 -- With one step more than these ranges have, that step breaks law 5: its pair does not fit.
 abbrev pub NoFurtherStep : Ranges → Type 0

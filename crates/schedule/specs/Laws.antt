@@ -1,11 +1,14 @@
 -- SOLE and LOSE keep the laws at every width. These are proofs, which nobody has to believe; they stand here since an
 -- implementation can give only a lemma of specs/ as the proof of a law.
-use Rattle.std.specs.Prelude.{◌≡◌, ℕ, suc, ◌+◌, ◌-◌, ◌*◌, ◌≤◌, true, ◌⊎◌}
+use Rattle.std.specs.Prelude.{◌≡◌, ℕ, suc, ◌+◌, ◌-◌, ◌*◌, ◌≤◌, Bool, true, false, ◌⊎◌, refl}
 use Rattle.std.proofs.Common.{sym, inl, inr, lit≤, mul-le-mul, arith}
 use Rattle.std.proofs.Math.Path.{subst}
 use Rattle.std.proofs.lemmas.Bool.Decides.{nat_tests}
 use Rattle.schedule.specs.Ranges.{Lawful}
-use Rattle.schedule.specs.Kinds.{known, fourfold, sole, lose}
+use Rattle.schedule.specs.Kinds.{known, fourfold, sole, lose, kind}
+use Rattle.schedule.specs.Widths.{bits_of}
+use Rattle.schedule.specs.declared.width.Width.{Width}
+use Rattle.schedule.specs.declared.width.Width.TheVariants.{Five, Eight, Sixteen, TwentyFour}
 
 group_sum : (c u : ℕ) → c * (c + u + u) ≤ (c + u) * (c + u)
 group_sum c u = omega arith
@@ -85,3 +88,13 @@ lose_lawful w h =
     (fourfold_lawful 256 1 5 (lit≤ tt) (lit≤ tt) (lit≤ tt) (lit≤ tt) (lit≤ tt) (lit≤ tt) (lit≤ tt))
     (fourfold_lawful 65536 1 90 (lit≤ tt) (lit≤ tt) (lit≤ tt) (lit≤ tt) (lit≤ tt) (lit≤ tt) (lit≤ tt))
     (fourfold_lawful 16777216 1 1448 (lit≤ tt) (lit≤ tt) (lit≤ tt) (lit≤ tt) (lit≤ tt) (lit≤ tt) (lit≤ tt))
+
+bits_known : (w : Width) → known (bits_of w) ≡ true
+bits_known Five = refl
+bits_known Eight = refl
+bits_known Sixteen = refl
+bits_known TwentyFour = refl
+
+pub kind_lawful : (led : Bool) (w : Width) → Lawful (kind led (bits_of w))
+kind_lawful false w = sole_lawful (bits_of w) (bits_known w)
+kind_lawful true w = lose_lawful (bits_of w) (bits_known w)

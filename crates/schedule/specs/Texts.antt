@@ -1,5 +1,7 @@
--- The text of each number of the refusal table, in ASCII.
+-- The text of each number of the refusal table, and of blocks, in ASCII.
 use Rattle.std.specs.Prelude.{ℕ, cond, List, [], ◌∷◌, codes, ◌==◌}
+use Rattle.std.specs.List.{flat_map}
+use Rattle.std.specs.Fmt.{decimal}
 
 -- The first text whose number is this one, and the empty text where there is none.
 abbrev pub listed : ℕ → List (ℕ × List ℕ) → List ℕ
@@ -23,3 +25,7 @@ text_of n = listed n (
     ∷ (40, codes "width has no bytes")
     ∷ (41, codes "buffer too short")
     ∷ [])
+
+-- Blocks as they are printed: each is a space and its decimal digits.
+abbrev pub listing : List ℕ → List ℕ
+listing blocks = flat_map (λ x. 32 ∷ decimal x) blocks

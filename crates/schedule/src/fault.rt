@@ -1,15 +1,17 @@
-ghost use Rattle.std.specs.Prelude.{◌≡◌};
-ghost use Rattle.schedule.specs.Faults.{number_place};
+ghost use Rattle.std.specs.Prelude.{◌≡◌, Some};
+ghost use Rattle.schedule.specs.Faults.{number_place, printed};
+
+use std::fmt;
 
 // 1: a schedule cannot be made.
-#[derive(Clone, Copy, Debug)]
+#[derive(Clone, Copy, Debug, PartialEq, Eq)]
 pub enum ScheduleFault {
     // 1: the width is not 5, 8, 16 or 24. Place 0.
     WidthUnknown,
 }
 
 // 10 to 12, 40 and 41: what is offered, written or packed does not fit.
-#[derive(Clone, Copy, Debug)]
+#[derive(Clone, Copy, Debug, PartialEq, Eq)]
 pub enum PieceFault {
     // 10: an offered block is B or more. Place: the first such block's index in the piece, from 0.
     OfferedTooLarge(u64),
@@ -25,7 +27,7 @@ pub enum PieceFault {
 
 // 20 and 21: found as the second pass is taken back. Place, of these and of 22 to 26: for a reader the count of blocks
 // that it accepted since it was new or since its last end, and for a lookup an index in the stream.
-#[derive(Clone, Copy, Debug)]
+#[derive(Clone, Copy, Debug, PartialEq, Eq)]
 pub enum SecondPassFault {
     // 20: a taken or looked-up block is B or more.
     TakenTooLarge(u64),
@@ -34,7 +36,7 @@ pub enum SecondPassFault {
 }
 
 // 22 and 23: found as the first pass is taken back.
-#[derive(Clone, Copy, Debug)]
+#[derive(Clone, Copy, Debug, PartialEq, Eq)]
 pub enum FirstPassFault {
     // 22: a pair's number is A × A or more.
     PairBeyondRange(u64),
@@ -43,7 +45,7 @@ pub enum FirstPassFault {
 }
 
 // 24 to 26: a stream does not end as it has to.
-#[derive(Clone, Copy, Debug)]
+#[derive(Clone, Copy, Debug, PartialEq, Eq)]
 pub enum ClosingFault {
     // 24: a mark is found, and the group's carrier is not 0.
     ClosingNotZero(u64),
@@ -54,14 +56,15 @@ pub enum ClosingFault {
 }
 
 // 30: a lookup has no block to answer.
-#[derive(Clone, Copy, Debug)]
+#[derive(Clone, Copy, Debug, PartialEq, Eq)]
 pub enum LookupFault {
     // 30: no block stands there. Place: the place asked.
     NoSuchPlace(u64),
 }
 
-// A fault names its layer, and inside the layer its own number and place.
-#[derive(Clone, Copy, Debug)]
+// A fault names its layer, and inside the layer its own number and place. It is made by both cases: six `From`s and an
+// `into` at each place would save no more than the layer's name.
+#[derive(Clone, Copy, Debug, PartialEq, Eq)]
 pub enum Fault {
     Schedule(ScheduleFault),
     Piece(PieceFault),
@@ -115,4 +118,22 @@ impl Fault {
             Fault::Lookup(LookupFault::NoSuchPlace(place)) => *place,
         }
     }
+}
+
+// X, the number and the place.
+impl fmt::Display for Fault {
+    ghost output = { λ fault. Some (printed fault) };
+
+    fn fmt<W: fmt::Write>(&self, f: &mut fmt::Formatter<W>) -> fmt::Result {
+        let number = self.number();
+        let place = self.place();
+        write!(f, "X {number} {place}")
+    }
+}
+
+// A refused call that would have used a value up: the value, as it was, and the fault.
+#[derive(Drop)]
+pub struct Refused<T> {
+    pub kept: T,
+    pub fault: Fault,
 }

@@ -25,26 +25,26 @@ pub trait Schedule {
     fn spill(&self, j: u64) -> u64
         ensures { result ≡ (ranges self.now).spill j };
 
+    // The symbol that ends a recording.
+    final fn end_mark(&self) -> u64
+        ensures { result ≡ end_mark (ranges self.now) }
+    {
+        self.base()
+    }
+
+    // A, the count of symbols: the blocks and the end mark.
+    final fn alphabet(&self) -> u64
+        ensures { result ≡ alphabet (ranges self.now) }
+    {
+        self.end_mark() + 1
+    }
+
+    // N, the blocks of the longest recording.
+    final fn longest(&self) -> u64
+        ensures { result ≡ longest (ranges self.now) }
+    {
+        self.lead() + 2 * self.steps() - 1
+    }
+
     ghost lawful: { (s : Self) → Lawful (ranges s) };
-}
-
-// The symbol that ends a recording.
-pub fn end_mark<S: Schedule>(schedule: &S) -> u64
-    ensures { result ≡ end_mark (S.ranges schedule.now) }
-{
-    schedule.base()
-}
-
-// A, the count of symbols: the blocks and the end mark.
-pub fn alphabet<S: Schedule>(schedule: &S) -> u64
-    ensures { result ≡ alphabet (S.ranges schedule.now) }
-{
-    end_mark(schedule) + 1
-}
-
-// N, the blocks of the longest recording.
-pub fn longest<S: Schedule>(schedule: &S) -> u64
-    ensures { result ≡ longest (S.ranges schedule.now) }
-{
-    schedule.lead() + 2 * schedule.steps() - 1
 }

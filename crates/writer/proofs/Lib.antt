@@ -1,11 +1,12 @@
 pub mod Numbers
+pub mod Fronts
+pub mod Rows
 pub mod Inverse
 pub mod Growing
 pub mod Closing
-pub mod Rows
 pub mod Opening
-pub mod Unique
 pub mod Shape
+pub mod Unique
 pub mod Recorded
 pub mod Pushing
 pub mod Running

@@ -1,8 +1,8 @@
 -- What symbols make of what a recording holds, and what they write: both go by what is held alone.
-use Rattle.std.proofs.Common.{◌≡◌, ℕ, zero, suc, ◌+◌, ◌-◌, ◌/◌, ◌%◌, List, [], ◌∷◌, ◌++◌, length, refl, ap, ◌∙◌, subst, inl, inr, arith}
+use Rattle.std.proofs.Common.{◌≡◌, ℕ, ◌+◌, ◌-◌, ◌/◌, ◌%◌, List, [], ◌∷◌, ◌++◌, length, refl, ap, ◌∙◌, inl, inr, arith}
+use Rattle.std.proofs.lemmas.Bool.{cases_lt}
 use Rattle.std.proofs.lemmas.List.{length-append}
 use Rattle.schedule.specs.Ranges.{Ranges, Lawful}
-use Rattle.schedule.proofs.Sizes.{split}
 use Rattle.writer.specs.declared.held.Held.{Held}
 use Rattle.writer.specs.Stream.{marks, first_pass, group, complete, stream}
 use Rattle.writer.specs.Holding.{Holds, Open, Grows}
@@ -18,29 +18,23 @@ pub record Pushed (R : Ranges) (h : Held) (new : List ℕ) : Type 0 where
   pub grows : (ss : List ℕ) → Holds R ss h → Grows R ss new after written
 
 -- The symbol that stands before the first pair.
-leading : (R : Ranges) (l : ℕ) → R.lead ≡ l → l ≡ 1 → (ss : List ℕ) (x n : ℕ) → length ss ≡ 0 → n ≡ 1 →
+leading : (R : Ranges) → R.lead ≡ 1 → (ss : List ℕ) (x n : ℕ) → length ss ≡ 0 → n ≡ 1 →
     Grows R ss (x ∷ []) (record { count = n; spill = x; waiting = 0 }) []
-leading R zero e f ss x n h k = absurd (omega arith)
-leading R (suc (suc l)) e f ss x n h k = absurd (omega arith)
-leading R (suc zero) e f (s ∷ ss) x n h k = absurd (omega arith)
-leading R (suc zero) e f [] x n h k =
-    record {
-      holds = record { count = k; spill = rw e refl; waiting = rw e refl };
-      writes = rw e refl;
-    }
+leading R e (s ∷ ss) x n h k = absurd (omega arith)
+leading R e [] x n h k = record { holds = record { count = k; spill = rw e refl; waiting = rw e refl }; writes = rw e refl }
 
 module _ (R : Ranges) (law : Lawful R) where
   -- One symbol.
   push : (h : Held) (x : ℕ) → Pushed R h (x ∷ [])
   push h x =
       let high = law.lead_high in
-      elim (split h.count R.lead) [
+      elim (cases_lt h.count R.lead) [
         | inl l ↦ record {
           after = record { count = h.count + 1; spill = x; waiting = 0 };
           written = [];
-          grows = λ ss holds. leading R R.lead refl (omega arith) ss x (h.count + 1) (omega (arith, holds.count)) (omega arith);
+          grows = λ ss holds. leading R (omega arith) ss x (h.count + 1) (omega arith) (omega arith);
         }
-        | inr l ↦ elim (split ((h.count - R.lead) % 2) 1) [
+        | inr l ↦ elim (cases_lt ((h.count - R.lead) % 2) 1) [
           | inl e ↦ record {
             after = record { count = h.count + 1; spill = h.spill; waiting = x };
             written = [];
@@ -78,7 +72,7 @@ module _ (R : Ranges) (law : Lawful R) where
       let long = ap length (p.grows ss holds).writes in
       let before = complete_length R law.lead_high ss in
       let now = complete_length R law.lead_high (ss ++ new) in
-      omega (arith, holds.count, length-append ss new, length-append (complete R ss) p.written)
+      omega (arith, length-append ss new, length-append (complete R ss) p.written)
 
   -- What the marks and the closing group write.
   pub record Ended (h : Held) : Type 0 where
@@ -93,9 +87,7 @@ module _ (R : Ranges) (law : Lawful R) where
       record {
         written = p.written ++ last;
         ends = λ ss holds.
-            closes R ss p.after p.written
-            (subst (λ (n : ℕ). Grows R ss (marks R n) p.after p.written) holds.count (p.grows ss holds))
-            k refl last refl;
+            closes R ss h p.after p.written holds (p.grows ss holds) k refl last refl;
       }
 
   pub ended_length : (h : Held) (p : Ended h) (ss : List ℕ) → Open R ss h → length p.written ≡ close_writes R h.count
@@ -104,4 +96,4 @@ module _ (R : Ranges) (law : Lawful R) where
       let before = complete_length R law.lead_high ss in
       let all = (stream_shape R law ss o.valid).long ∙ ap (λ (n : ℕ). n + 1) (length-append ss (marks R (length ss))) in
       let same : length (marks R h.count) ≡ length (marks R (length ss)) = ap (λ (n : ℕ). length (marks R n)) o.holds.count in
-      omega (arith, o.holds.count)
+      omega arith

@@ -1,25 +1,18 @@
 -- An offer that is not refused.
-use Rattle.std.proofs.Common.{◌≡◌, ℕ, ◌+◌, ◌<◌, ◌≤◌, List, [], ◌∷◌, length, Ok, Result, inl, inr, arith}
-use Rattle.std.proofs.lemmas.Bool.Decides.{nat_tests, leb_tells}
+use Rattle.std.proofs.Common.{◌≡◌, ℕ, ◌+◌, ◌<◌, ◌≤◌, List, length, Ok, Result, arith}
+use Rattle.std.proofs.lemmas.Bool.Decides.{nat_tests}
 use Rattle.schedule.specs.Faults.{judged}
 use Rattle.schedule.proofs.Judged.{judged_clear}
 use Rattle.std.specs.List.{AllByRecursion}
 use Rattle.schedule.specs.Ranges.{Ranges, longest}
-use Rattle.writer.specs.Calls.{front_below, offer_writes, offer_rows}
+use Rattle.writer.specs.Calls.{offer_writes, offer_rows}
+use Rattle.writer.proofs.Fronts.{all_below}
 
 -- An offer that no row stands against.
 pub record Fine (R : Ranges) (count : ℕ) (piece : List ℕ) (room : ℕ) : Type 0 where
   pub fits : count + length piece ≤ longest R
   pub below : AllByRecursion (λ x. x < R.base) piece
   pub room_for : offer_writes R count (length piece) ≤ room
-
-all_below : (base : ℕ) (piece : List ℕ) → length piece ≤ front_below base piece → AllByRecursion (λ x. x < base) piece
-all_below base [] h = tt
-all_below base (x ∷ xs) h =
-    elim (leb_tells base x) [
-      | inl t ↦ absurd (omega (arith, rw t.0 at h))
-      | inr t ↦ (t.1, all_below base xs (omega (arith, rw t.0 at h)))
-    ]
 
 pub fine : (R : Ranges) (count : ℕ) (piece : List ℕ) (room : ℕ) → ◌≡◌ {A = Result (Unit {0}) (ℕ × ℕ)} (Ok tt) (judged (offer_rows R count piece room) tt) → Fine R count piece room
 fine R count piece room e =

@@ -1,8 +1,8 @@
 -- Every list of calls has one run, and what a new recording accepts is what is valid.
-use Rattle.std.proofs.Common.{◌≡◌, ℕ, suc, ◌<◌, ◌≤◌, false, ltb, ◌⊎◌, List, [], ◌∷◌, ◌++◌, map, length, take, drop, replicate, Ok, Err, Result, sym, refl, ap, ◌∙◌, subst, ap₂, inl, inr, ⊎_elim, append-nil, arith}
-use Rattle.std.specs.List.{AllByRecursion}
+use Rattle.std.proofs.Common.{◌≡◌, ℕ, ◌≤◌, ◌⊎◌, List, [], ◌∷◌, ◌++◌, map, length, take, drop, replicate, Ok, Err, Result, sym, refl, ap, ◌∙◌, inl, inr, ⊎_elim, append-nil, arith}
 use Rattle.std.proofs.lemmas.List.{length-append, length-drop, length-replicate, take_at, drop_at, take-append-drop, append_cancel_left}
-use Rattle.std.proofs.lemmas.Bool.Decides.{nat_tests, leb_tells}
+use Rattle.std.proofs.lemmas.Bool.{le-ltb}
+use Rattle.std.proofs.lemmas.Bool.Decides.{nat_tests}
 use Rattle.schedule.specs.declared.fault.Fault.{Fault}
 use Rattle.schedule.specs.declared.fault.Fault.TheVariants.{Piece}
 use Rattle.schedule.specs.declared.fault.PieceFault.TheVariants.{OfferedTooLarge, RecordingTooLong, BufferTooShort}
@@ -11,13 +11,14 @@ use Rattle.schedule.specs.Ranges.{Ranges, Lawful}
 use Rattle.schedule.proofs.Judged.{Clear, judged_clear, clear_judged, judged_as}
 use Rattle.schedule.proofs.Table.{says_one, Listed, heard}
 use Rattle.writer.specs.declared.held.Held.{Held}
-use Rattle.writer.specs.Stream.{Valid, complete}
+use Rattle.writer.specs.Stream.{complete}
 use Rattle.writer.specs.Holding.{Holds, Open, opened}
-use Rattle.writer.specs.Calls.{front_below, offer_writes, close_writes, offer_rows, close_rows, Written, AfterOffer, AfterClose, Offers, Closes}
+use Rattle.writer.specs.Calls.{offer_writes, close_writes, offer_rows, close_rows, Written, AfterOffer, AfterClose, Offers, Closes}
 use Rattle.writer.specs.Runs.{Call, Records, ClosedAtLast}
 use Rattle.writer.specs.Runs.Call.{offer, close}
 use Rattle.writer.specs.Lists.{Ask, asked, EveryListRecords, ValidIsAccepted}
 use Rattle.writer.specs.Lists.Ask.{ask_offer, ask_close}
+use Rattle.writer.proofs.Fronts.{front_all}
 use Rattle.writer.proofs.Rows.{Fine, fine}
 use Rattle.writer.proofs.Opening.{open_from, opened_open, valid_append}
 use Rattle.writer.proofs.Recorded.{writes_streams}
@@ -36,31 +37,14 @@ put_front new buffer n e h =
 same_written : (n : ℕ) (buffer one other front : List ℕ) → Written n buffer one → Written n buffer other →
     front ++ take n one ≡ front ++ take n other → one ≡ other
 same_written n buffer one other front w v e =
-    sym (take-append-drop n one)
-    ∙ ap₂ (λ (a b : List ℕ). a ++ b) (append_cancel_left front (take n one) (take n other) e) (w.behind ∙ sym v.behind)
-    ∙ take-append-drop n other
-
--- Where every block is below the base, none stops the count.
-front_all : (base : ℕ) (piece : List ℕ) → AllByRecursion (λ x. x < base) piece → front_below base piece ≡ length piece
-front_all base [] b = refl
-front_all base (x ∷ xs) b =
-    elim (leb_tells base x) [
-      | inl t ↦ absurd (omega (arith, b.0))
-      | inr t ↦ rw t.0 (ap suc (front_all base xs b.1))
-    ]
-
-not_less : (a b : ℕ) → b ≤ a → ltb a b ≡ false
-not_less a b h = grind (arith, nat_tests)
+    cc (take-append-drop n one, take-append-drop n other, append_cancel_left front (take n one) (take n other) e)
 
 -- Two that hold what these symbols make are equal.
 abbrev hold : (count spill waiting : ℕ) → Held
 hold c s w = record { count = c; spill = s; waiting = w }
 
 one_held : (R : Ranges) (ss : List ℕ) (h k : Held) → Holds R ss h → Holds R ss k → h ≡ k
-one_held R ss h k p q =
-    ap (λ (n : ℕ). hold n h.spill h.waiting) (p.count ∙ sym q.count)
-    ∙ ap (λ (n : ℕ). hold k.count n h.waiting) (p.spill ∙ sym q.spill)
-    ∙ ap (λ (n : ℕ). hold k.count k.spill n) (p.waiting ∙ sym q.waiting)
+one_held R ss h k p q = let same : hold h.count h.spill h.waiting ≡ hold k.count k.spill k.waiting = cc in same
 
 module _ (R : Ranges) (law : Lawful R) where
   -- The rows of an offer and of a close are rows of the table.
@@ -74,8 +58,8 @@ module _ (R : Ranges) (law : Lawful R) where
   -- No row holds of a fine offer.
   offer_clear : (count : ℕ) (piece : List ℕ) (room : ℕ) → Fine R count piece room → Clear (offer_rows R count piece room)
   offer_clear count piece room f = (
-    not_less _ _ f.fits,
-    (not_less _ _ (omega (arith, front_all R.base piece f.below)), (not_less _ _ f.room_for, tt)),
+    le-ltb _ _ f.fits,
+    (le-ltb _ _ (omega (arith, front_all R.base piece f.below)), (le-ltb _ _ f.room_for, tt)),
   )
 
   -- An offer that is accepted, and what it leaves.
@@ -92,7 +76,7 @@ module _ (R : Ranges) (law : Lawful R) where
       let long : length p.written ≡ n = pushed_length R law h piece p xs o.holds ∙ sym e in
       let opens : (ss : List ℕ) → Open R ss h → Open R (ss ++ piece) p.after = λ ss q.
       open_from R law (ss ++ piece) p.after
-      (valid_append R law ss piece q.valid f.below (omega (arith, f.fits, q.holds.count)))
+      (valid_append R law ss piece q.valid f.below (omega arith))
       (p.grows ss q.holds).holds in
       record {
         then = p.after;
@@ -100,10 +84,10 @@ module _ (R : Ranges) (law : Lawful R) where
         offers = record {
           answers = ap Ok e ∙ sym (clear_judged (offer_rows R h.count piece (length buffer)) _ (offer_clear h.count piece (length buffer) f));
           leaves = (
-            put_front p.written buffer n long (omega (arith, f.room_for)),
+            put_front p.written buffer n long (omega arith),
             λ ss q. (
               opens ss q,
-              (p.grows ss q.holds).writes ∙ ap (λ (bs : List ℕ). complete R ss ++ bs) (sym (take_at p.written (drop n buffer) n long)),
+              cc ((p.grows ss q.holds).writes, take_at p.written (drop n buffer) n long),
             ),
           );
         };
@@ -118,10 +102,10 @@ module _ (R : Ranges) (law : Lawful R) where
       let long : length p.written ≡ n = ended_length R law h p xs o ∙ sym e in (
         p.written ++ drop n buffer,
         record {
-          answers = ap Ok e ∙ sym (clear_judged (close_rows R h.count (length buffer)) _ (not_less _ _ (omega arith), tt));
+          answers = ap Ok e ∙ sym (clear_judged (close_rows R h.count (length buffer)) _ (le-ltb _ _ (omega arith), tt));
           leaves = (
             put_front p.written buffer n long f,
-            λ ss q. p.ends ss q.holds ∙ ap (λ (bs : List ℕ). complete R ss ++ bs) (sym (take_at p.written (drop n buffer) n long)),
+            λ ss q. cc (p.ends ss q.holds, take_at p.written (drop n buffer) n long),
           );
         },
       )
@@ -186,8 +170,8 @@ module _ (R : Ranges) (law : Lawful R) where
         offer piece buffer a.answer a.after ∷ more.0,
         record {
           runs = (a.then, a.offers, more.1.runs);
-          in_order = (more.1.in_order.0, ap (λ (later : List Ask). ask_offer piece buffer ∷ later) more.1.in_order.1);
-          to_the_end = ⊎_elim (λ c. inl c) (λ e. inr (ap (λ (later : List Ask). ask_offer piece buffer ∷ later) e)) more.1.to_the_end;
+          in_order = (more.1.in_order.0, cc more.1.in_order.1);
+          to_the_end = ⊎_elim (λ c. inl c) (λ e. inr (cc)) more.1.to_the_end;
         },
       )
   follow (ask_close buffer ∷ asks) h xs o =
@@ -202,8 +186,8 @@ module _ (R : Ranges) (law : Lawful R) where
         close buffer (Err f) after ∷ more.0,
         record {
           runs = (h, c, more.1.runs);
-          in_order = (more.1.in_order.0, ap (λ (later : List Ask). ask_close buffer ∷ later) more.1.in_order.1);
-          to_the_end = ⊎_elim (λ c. inl c) (λ e. inr (ap (λ (later : List Ask). ask_close buffer ∷ later) e)) more.1.to_the_end;
+          in_order = (more.1.in_order.0, cc more.1.in_order.1);
+          to_the_end = ⊎_elim (λ c. inl c) (λ e. inr (cc)) more.1.to_the_end;
         },
       )
 
@@ -215,12 +199,12 @@ module _ (R : Ranges) (law : Lawful R) where
     where
       go : (a b : Result ℕ Fault) → a ≡ b → AfterOffer R h piece buffer a h' one → AfterOffer R h piece buffer b h'' other →
           (a ≡ b) × (one ≡ other) × (h' ≡ h'') × ((ys : List ℕ) × Open R ys h')
-      go (Ok n) (Err f) e v w = let z : ◌≡◌ {A = ℕ} 0 1 = cc in absurd (omega arith)
-      go (Err f) (Ok n) e v w = let z : ◌≡◌ {A = ℕ} 0 1 = cc in absurd (omega arith)
-      go (Err f) (Err g) e v w = (e, v.1 ∙ sym w.1, v.0 ∙ sym w.0, (xs, subst (Open R xs) (sym v.0) o))
+      go (Ok n) (Err f) e v w = absurd cc
+      go (Err f) (Ok n) e v w = absurd cc
+      go (Err f) (Err g) e v w = (e, cc, cc, (xs, rw v.0 o))
       go (Ok n) (Ok m) e v w =
           let same : m ≡ n = cc in
-          let w' = subst (λ (i : ℕ). AfterOffer R h piece buffer (Ok i) h'' other) same w in
+          let w' = rw same at w in
           let c = v.1 xs o in
           let d = w'.1 xs o in (
             e,
@@ -234,12 +218,12 @@ module _ (R : Ranges) (law : Lawful R) where
   closes_once h xs buffer a b h' h'' one other o p q = go a b (says_one a b (p.answers ∙ sym q.answers)) p.leaves q.leaves
     where
       go : (a b : Result ℕ Fault) → a ≡ b → AfterClose R h buffer a h' one → AfterClose R h buffer b h'' other → (a ≡ b) × (one ≡ other)
-      go (Ok n) (Err f) e v w = let z : ◌≡◌ {A = ℕ} 0 1 = cc in absurd (omega arith)
-      go (Err f) (Ok n) e v w = let z : ◌≡◌ {A = ℕ} 0 1 = cc in absurd (omega arith)
-      go (Err f) (Err g) e v w = (e, v.1 ∙ sym w.1)
+      go (Ok n) (Err f) e v w = absurd cc
+      go (Err f) (Ok n) e v w = absurd cc
+      go (Err f) (Err g) e v w = (e, cc)
       go (Ok n) (Ok m) e v w =
           let same : m ≡ n = cc in
-          let w' = subst (λ (i : ℕ). AfterClose R h buffer (Ok i) h'' other) same w in
+          let w' = rw same at w in
           (e, same_written n buffer one other (complete R xs) v.0 w'.0 (sym (v.1 xs o) ∙ w'.1 xs o))
 
   -- Two closes that answer the head of one list.
@@ -248,10 +232,8 @@ module _ (R : Ranges) (law : Lawful R) where
       Closes R h buffer x h' after → Closes R h buffer' y h'' after' → (x ≡ y) × (close buffer x after ≡ close buffer' y after')
   same_close h xs a asks more more' buffer buffer' x y h' h'' after after' o e f p q =
       let same : buffer' ≡ buffer = cc in
-      let once = closes_once h xs buffer x y h' h'' after after' o p (subst (λ (b : List ℕ). Closes R h b y h'' after') same q) in
-      let one = once.0 in
-      let two = once.1 in
-      (one, cc)
+      let once = closes_once h xs buffer x y h' h'' after after' o p (rw same at q) in
+      (once.0, cc (once.0, once.1))
 
   -- The rest of a run follows the rest of its list.
   after_offer : (h : Held) (a : Ask) (asks : List Ask) (piece buffer : List ℕ) (answer : Result ℕ Fault) (after : List ℕ) (calls : List Call) →
@@ -269,7 +251,7 @@ module _ (R : Ranges) (law : Lawful R) where
   after_close h a asks buffer f after calls p =
       let same = p.in_order.1 in
       record {
-        runs = subst (λ (k : Held). Records R k calls) p.runs.1.leaves.0 p.runs.2;
+        runs = rw p.runs.1.leaves.0 at p.runs.2;
         in_order = (p.in_order.0, cc);
         to_the_end = ⊎_elim (λ c. inl c) (λ e. inr (cc)) p.to_the_end;
       }
@@ -278,7 +260,7 @@ module _ (R : Ranges) (law : Lawful R) where
   none_and_some : (h : Held) (asks : List Ask) (c : Call) (calls : List Call) → Follows h asks [] → Follows h asks (c ∷ calls) → ⊥
   none_and_some h asks c calls p q =
       let same = q.in_order.1 in
-      elim p.to_the_end [ inl e ↦ e | inr e ↦ let z : ◌≡◌ {A = ℕ} 0 1 = cc in omega arith ]
+      elim p.to_the_end [ inl e ↦ e | inr e ↦ cc ]
 
   -- And no other.
   follow_once : (asks : List Ask) (h : Held) (xs : List ℕ) → Open R xs h → (one other : List Call) →
@@ -288,29 +270,28 @@ module _ (R : Ranges) (law : Lawful R) where
   follow_once asks h xs o (c ∷ cs) [] p q = absurd (none_and_some h asks c cs q p)
   follow_once [] h xs o (c ∷ cs) (d ∷ ds) p q =
       let e = p.in_order.1 in
-      let z : ◌≡◌ {A = ℕ} 0 1 = cc in absurd (omega arith)
+      absurd cc
   follow_once (a ∷ asks) h xs o (offer piece buffer answer after ∷ cs) (offer piece' buffer' answer' after' ∷ ds) p q =
       let e = p.in_order.1 in
       let f = q.in_order.1 in
       let same_piece : piece' ≡ piece = cc in
       let same_buffer : buffer' ≡ buffer = cc in
-      let second = subst (λ (b : List ℕ). Offers R h piece b answer' q.runs.0 after') same_buffer
-      (subst (λ (b : List ℕ). Offers R h b buffer' answer' q.runs.0 after') same_piece q.runs.1) in
+      let second = rw (same_piece, same_buffer) at q.runs.1 in
       let once = offers_once h xs piece buffer answer answer' p.runs.0 q.runs.0 after after' o p.runs.1 second in
       let same_answer = once.0 in
       let same_after = once.1 in
       let more = follow_once asks p.runs.0 once.3.0 once.3.1 cs ds
       (after_offer h a asks piece buffer answer after cs p)
-      (subst (λ (k : Held). Follows k asks ds) (sym once.2) (after_offer h a asks piece' buffer' answer' after' ds q)) in
+      (rw once.2 (after_offer h a asks piece' buffer' answer' after' ds q)) in
       cc
   follow_once (a ∷ asks) h xs o (offer piece buffer answer after ∷ cs) (close buffer' answer' after' ∷ ds) p q =
       let e = p.in_order.1 in
       let f = q.in_order.1 in
-      let z : ◌≡◌ {A = ℕ} 0 1 = cc in absurd (omega arith)
+      absurd cc
   follow_once (a ∷ asks) h xs o (close buffer answer after ∷ cs) (offer piece' buffer' answer' after' ∷ ds) p q =
       let e = p.in_order.1 in
       let f = q.in_order.1 in
-      let z : ◌≡◌ {A = ℕ} 0 1 = cc in absurd (omega arith)
+      absurd cc
   follow_once (a ∷ asks) h xs o (close buffer (Ok n) after ∷ cs) (close buffer' (Ok m) after' ∷ ds) p q =
       let same = (same_close h xs a asks _ _ buffer buffer' (Ok n) (Ok m) _ _ after after' o p.in_order.1 q.in_order.1 p.runs.1 q.runs.1).1 in
       let none = p.runs.2 in
@@ -322,10 +303,10 @@ module _ (R : Ranges) (law : Lawful R) where
       cc
   follow_once (a ∷ asks) h xs o (close buffer (Ok n) after ∷ cs) (close buffer' (Err g) after' ∷ ds) p q =
       let same = (same_close h xs a asks _ _ buffer buffer' (Ok n) (Err g) _ _ after after' o p.in_order.1 q.in_order.1 p.runs.1 q.runs.1).0 in
-      let z : ◌≡◌ {A = ℕ} 0 1 = cc in absurd (omega arith)
+      absurd cc
   follow_once (a ∷ asks) h xs o (close buffer (Err f) after ∷ cs) (close buffer' (Ok m) after' ∷ ds) p q =
       let same = (same_close h xs a asks _ _ buffer buffer' (Err f) (Ok m) _ _ after after' o p.in_order.1 q.in_order.1 p.runs.1 q.runs.1).0 in
-      let z : ◌≡◌ {A = ℕ} 0 1 = cc in absurd (omega arith)
+      absurd cc
 
   pub every_list_records : EveryListRecords R
   every_list_records asks =
@@ -344,12 +325,12 @@ module _ (R : Ranges) (law : Lawful R) where
         let n = offer_writes R 0 (length blocks) in
         let buffer : List ℕ = replicate n 0 in
         let a = accept opened [] blocks buffer n (opened_open R law)
-        (record { fits = omega (arith, v.few); below = v.below; room_for = omega (arith, length-replicate {A = ℕ} n 0) }) refl in
+        (record { fits = omega arith; below = v.below; room_for = omega (arith, length-replicate {A = ℕ} n 0) }) refl in
         let m = close_writes R a.then.count in
         let buffer' : List ℕ = replicate m 0 in
         let b = end_with a.then blocks buffer' m a.still_open (omega (arith, length-replicate {A = ℕ} m 0)) refl in
         (buffer, n, a.after, buffer', m, b.0, ((a.then, a.offers, (a.then, b.1, refl)), tt))),
     (λ r.
         let v = (writes_streams R law (offer blocks r.0 (Ok r.1) r.2 ∷ close r.3 (Ok r.4) r.5 ∷ []) r.6).0 in
-        subst (Valid R) (append-nil blocks) v),
+        rw append-nil at v),
   )

@@ -1,10 +1,10 @@
 -- What an open recording holds.
-use Rattle.std.specs.Prelude.{◌≡◌, ℕ, suc, ◌+◌, ◌-◌, ◌*◌, ◌/◌, ◌^◌, ◌<◌, ◌≤◌, List, [], ◌∷◌, ◌++◌, length, drop}
+use Rattle.std.specs.Prelude.{◌≡◌, ℕ, suc, ◌+◌, ◌-◌, ◌*◌, ◌/◌, ◌^◌, ◌<◌, ◌≤◌, List, [], ◌∷◌, ◌++◌, length, drop, Some, None, Option}
 use Rattle.schedule.specs.Ranges.{Ranges}
 use Rattle.writer.specs.Stream.{Valid, first_spill, first_pass, complete}
 use Rattle.writer.specs.declared.held.Held.{Held}
 use Rattle.writer.specs.declared.held.Group.{Group}
-use Rattle.writer.specs.declared.held.Group.TheVariants.{Nothing, One, Two}
+use Rattle.writer.specs.declared.held.Group.TheVariants.{One, Two}
 
 -- The spill that the last pair leaves, where y(j) is y; and the symbol that waits for its partner, or 0.
 abbrev pub last_spill : Ranges → ℕ → ℕ → List ℕ → ℕ
@@ -50,9 +50,13 @@ abbrev pub Small : Held → Type 0
 Small h = (h.count < 2 ^ 18) × Sized h
 
 abbrev pub group_blocks : Group → List ℕ
-group_blocks Nothing = []
 group_blocks (One w) = w ∷ []
 group_blocks (Two v w) = v ∷ w ∷ []
+
+-- What a symbol writes: the group that it completes, if any.
+abbrev pub completed : Option Group → List ℕ
+completed None = []
+completed (Some group) = group_blocks group
 
 -- Some more symbols: what is held then, and the groups whose pairs they complete.
 pub record Grows (R : Ranges) (ss new : List ℕ) (h' : Held) (written : List ℕ) : Type 0 where

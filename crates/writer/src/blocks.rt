@@ -5,10 +5,5 @@ ghost use Rattle.writer.specs.Calls.{front_below};
 pub fn front_below(base: u64, piece: &[u64]) -> usize
     ensures { result ≡ front_below base piece.now }
 {
-    for (i, x) in piece.iter().enumerate() {
-        if *x >= base {
-            return i;
-        }
-    }
-    piece.len()
+    piece.iter().position(|x| *x >= base).unwrap_or(piece.len())
 }

@@ -1,15 +1,14 @@
 // What a recording holds: the count of its symbols so far, the spill, and the symbol that waits for its partner, or 0.
-#[derive(Clone, Copy)]
+#[derive(Clone, Copy, Debug, PartialEq, Eq)]
 pub struct Held {
     pub(crate) count: u64,
     pub(crate) spill: u64,
     pub(crate) waiting: u64,
 }
 
-// What one symbol writes: nothing, or a group of one or two blocks.
-#[derive(Clone, Copy)]
+// The one or two blocks of a group.
+#[derive(Clone, Copy, Debug, PartialEq, Eq)]
 pub(crate) enum Group {
-    Nothing,
     One(u64),
     Two(u64, u64),
 }

@@ -4,7 +4,7 @@ ghost use Rattle.writer.specs.Stream.{first_pass, group};
 ghost use Rattle.writer.specs.Holding.{group_blocks};
 
 use crate::held::Group;
-use schedule::interface::{Schedule, alphabet};
+use schedule::interface::Schedule;
 
 // The first pass on pair j: the carrier and the spill of (s, t).
 pub(crate) fn first_pass<S: Schedule>(schedule: &S, j: u64, s: u64, t: u64) -> (u64, u64)
@@ -13,7 +13,7 @@ pub(crate) fn first_pass<S: Schedule>(schedule: &S, j: u64, s: u64, t: u64) -> (
     ensures beyond { (S.ranges schedule.now).steps ≤ j → result ≡ (0, 0) }
     ensures small { (result.0 ≤ 16777216) × (result.1 < 2 ^ 48) }
 {
-    let z = t * alphabet(schedule) + s;
+    let z = t * schedule.alphabet() + s;
     let range = schedule.carrier(j);
     if range == 0 {
         return (0, 0);

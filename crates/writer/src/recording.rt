@@ -1,28 +1,22 @@
 // A recording: opened, offered pieces, then closed.
-ghost use Rattle.std.specs.Prelude.{◌≡◌, [], Ok, Err, MatchResult};
+ghost use Rattle.std.specs.Prelude.{◌≡◌, ◌≤◌, [], Ok, Err, MatchResult};
+ghost use Rattle.schedule.specs.Ranges.{longest};
 ghost use Rattle.writer.specs.Holding.{Open, Small, opened};
 ghost use Rattle.writer.specs.Calls.{Offers, Closes};
 ghost use Rattle.writer.specs.Laws.{WriterLaws};
 ghost use Rattle.writer.specs.Worked.{WorkedStreams};
 
 use crate::held::Held;
-use crate::steps::{check_close, check_offer, finish, run};
-use schedule::fault::Fault;
+use schedule::fault::{Fault, Refused};
 use schedule::interface::Schedule;
 
-// An open recording on a schedule.
+// An open recording on a schedule, of at most N blocks. It writes into lent buffers: nothing here needs a heap.
 #[derive(Drop)]
 pub struct Recording<S: Schedule> {
-    schedule: S,
-    held: Held,
+    pub(crate) schedule: S,
+    pub(crate) held: Held,
     ghost small: { Small held },
-}
-
-// A refused close: the recording, still open, and the fault.
-#[derive(Drop)]
-pub struct RefusedClose<S: Schedule> {
-    pub recording: Recording<S>,
-    pub fault: Fault,
+    ghost few: { held.count ≤ longest (S.ranges schedule) },
 }
 
 impl<S: Schedule> Recording<S> {
@@ -49,25 +43,20 @@ impl<S: Schedule> Recording<S> {
         ensures schedule { self.new.schedule ≡ self.old.schedule }
         ensures offers { Offers (S.ranges self.old.schedule) self.old.held piece.now buffer.old result self.new.held buffer.new }
     {
-        check_offer(&self.schedule, self.held.count, piece, buffer.len())?;
-        let (held, written) = run(&self.schedule, self.held, piece, buffer);
-        self.held = held;
-        Ok(written)
+        self.check_offer(piece, buffer.len())?;
+        Ok(self.write(piece, buffer))
     }
 
     // Writes the remaining groups with the closing group at the buffer's front, answers how many blocks that are, and
     // uses the recording up. Refuses with 12, and then hands the recording back.
-    pub fn close(self, buffer: &mut [u64]) -> Result<usize, RefusedClose<S>>
+    pub fn close(self, buffer: &mut [u64]) -> Result<usize, Refused<Recording<S>>>
     where
         S: Drop,
-        ensures { MatchResult result (λ n. Closes (S.ranges self.schedule) self.held buffer.old (Ok n) self.held buffer.new) (λ e. Closes (S.ranges self.schedule) self.held buffer.old (Err e.fault) e.recording.held buffer.new × (e.recording.schedule ≡ self.schedule)) }
+        ensures { MatchResult result (λ n. Closes (S.ranges self.schedule) self.held buffer.old (Ok n) self.held buffer.new) (λ e. Closes (S.ranges self.schedule) self.held buffer.old (Err e.fault) e.kept.held buffer.new × (e.kept.schedule ≡ self.schedule)) }
     {
-        match check_close(&self.schedule, self.held.count, buffer.len()) {
-            Ok(()) => Ok(finish(&self.schedule, self.held, buffer)),
-            Err(fault) => Err(RefusedClose {
-                recording: self,
-                fault,
-            }),
+        match self.check_close(buffer.len()) {
+            Ok(()) => Ok(self.finish(buffer)),
+            Err(fault) => Err(Refused { kept: self, fault }),
         }
     }
 }

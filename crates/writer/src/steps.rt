@@ -1,120 +1,188 @@
-// The writer's steps: one symbol, a list of symbols, and what they need.
-ghost use Rattle.std.specs.Prelude.{◌≡◌, ℕ, ◌+◌, ◌-◌, ◌*◌, ◌^◌, ◌<◌, ◌≤◌, List, [], ◌∷◌, ◌++◌, length, take, drop, nat_lt};
+// The writer's steps: one symbol, a piece, the end marks, and what stands against them.
+ghost use Rattle.std.specs.Prelude.{◌≡◌, ℕ, ◌+◌, ◌^◌, ◌<◌, ◌≤◌, List, [], ◌∷◌, ◌++◌, length, take, drop, nat_lt};
 ghost use Rattle.std.specs.List.{AllByRecursion};
 ghost use Rattle.schedule.specs.Faults.{says, judged};
 ghost use Rattle.schedule.specs.Ranges.{longest};
 ghost use Rattle.writer.specs.Stream.{marks, complete, stream};
-ghost use Rattle.writer.specs.Holding.{Holds, Grows, Sized, Small, due, group_blocks};
+ghost use Rattle.writer.specs.Holding.{Holds, Grows, Sized, due, completed};
 ghost use Rattle.writer.specs.Calls.{offer_writes, offer_rows, close_writes, close_rows};
 
 use crate::blocks::front_below;
 use crate::held::{Group, Held};
 use crate::passes::{first_pass, second_pass};
+use crate::recording::Recording;
 use schedule::fault::{Fault, PieceFault};
-use schedule::interface::{Schedule, end_mark, longest};
+use schedule::interface::Schedule;
 
-// One more symbol.
-pub(crate) fn advance<S: Schedule>(schedule: &S, held: Held, symbol: u64) -> (Held, Group)
-    requires count { held.count < 2 ^ 32 }
-    requires sized { Sized held }
-    requires symbol { symbol ≤ 16777216 }
-    ensures count { result.0.count ≡ held.count + 1 }
-    ensures sized { Sized result.0 }
-    ensures long { length (group_blocks result.1) + due (S.ranges schedule.now) held.count ≡ due (S.ranges schedule.now) (held.count + 1) }
-    ensures grows { (ss : List ℕ) → held.count < (S.ranges schedule.now).lead + 2 * (S.ranges schedule.now).steps → Holds (S.ranges schedule.now) ss held → Grows (S.ranges schedule.now) ss (symbol ∷ []) result.0 (group_blocks result.1) }
-{
-    let count = held.count + 1;
-    let lead = schedule.lead();
-    if held.count < lead {
-        return (
+impl<S: Schedule> Recording<S> {
+    // What is held after one more symbol, and the group that it completes, if any.
+    fn after(&self, symbol: u64) -> (Held, Option<Group>)
+        requires { symbol ≤ 16777216 }
+        ensures count { result.0.count ≡ self.now.held.count + 1 }
+        ensures sized { Sized result.0 }
+        ensures long { let R = S.ranges self.now.schedule in length (completed result.1) + due R self.now.held.count ≡ due R (self.now.held.count + 1) }
+        ensures grows { let R = S.ranges self.now.schedule in (ss : List ℕ) → Holds R ss self.now.held → Grows R ss (symbol ∷ []) result.0 (completed result.1) }
+    {
+        let held = self.held;
+        let count = held.count + 1;
+        let Some(place) = held.count.checked_sub(self.schedule.lead()) else {
+            return (
+                Held {
+                    count,
+                    spill: symbol,
+                    waiting: 0,
+                },
+                None,
+            );
+        };
+        if place % 2 == 0 {
+            return (
+                Held {
+                    count,
+                    waiting: symbol,
+                    ..held
+                },
+                None,
+            );
+        }
+        let j = place / 2;
+        let (carrier, spill) = first_pass(&self.schedule, j, held.waiting, symbol);
+        let group = second_pass(&self.schedule, j, carrier, held.spill);
+        (
             Held {
                 count,
-                spill: symbol,
+                spill,
                 waiting: 0,
             },
-            Group::Nothing,
-        );
+            Some(group),
+        )
     }
-    let place = held.count - lead;
-    if place % 2 == 0 {
-        return (
-            Held {
-                count,
-                spill: held.spill,
-                waiting: symbol,
-            },
-            Group::Nothing,
-        );
+
+    // Takes one more symbol, and answers the group that it completes, if any.
+    fn push(&mut self, symbol: u64) -> Option<Group>
+        requires symbol { symbol ≤ 16777216 }
+        requires few { self.old.held.count < longest (S.ranges self.old.schedule) }
+        ensures schedule { self.new.schedule ≡ self.old.schedule }
+        ensures count { self.new.held.count ≡ self.old.held.count + 1 }
+        ensures long { let R = S.ranges self.old.schedule in length (completed result) + due R self.old.held.count ≡ due R (self.old.held.count + 1) }
+        ensures grows { let R = S.ranges self.old.schedule in (ss : List ℕ) → Holds R ss self.old.held → Grows R ss (symbol ∷ []) self.new.held (completed result) }
+    {
+        let (held, group) = self.after(symbol);
+        self.held = held;
+        group
     }
-    let j = place / 2;
-    let (carrier, spill) = first_pass(schedule, j, held.waiting, symbol);
-    let group = second_pass(schedule, j, carrier, held.spill);
-    (
-        Held {
-            count,
-            spill,
-            waiting: 0,
-        },
-        group,
-    )
+
+    // Takes blocks one after another, puts each group that they complete into the buffer, from its front, and answers
+    // how many blocks were written. `at` moves on by none, one or two: an iterator over the buffer's places would leave
+    // nothing known of the buffer.
+    pub(crate) fn write(&mut self, blocks: &[u64], buffer: &mut [u64]) -> usize
+        requires below { AllByRecursion (λ x. x < (S.ranges self.old.schedule).base) blocks.now }
+        requires few { self.old.held.count + length blocks.now ≤ longest (S.ranges self.old.schedule) }
+        requires room { offer_writes (S.ranges self.old.schedule) self.old.held.count (length blocks.now) ≤ length buffer.old }
+        ensures schedule { self.new.schedule ≡ self.old.schedule }
+        ensures wrote { result ≡ offer_writes (S.ranges self.old.schedule) self.old.held.count (length blocks.now) }
+        ensures behind { drop result buffer.new ≡ drop result buffer.old }
+        ensures grows { let R = S.ranges self.old.schedule in (ss : List ℕ) → Holds R ss self.old.held → Grows R ss blocks.now self.new.held (take result buffer.new) }
+    {
+        let mut at = 0;
+        for x in blocks {
+            at = put(buffer, at, self.push(*x));
+        }
+        at
+    }
+
+    // How many blocks have been written once n symbols are known.
+    fn due(&self, n: u64) -> u64
+        requires { n < 2 ^ 32 }
+        ensures { result ≡ due (S.ranges self.now.schedule) n }
+    {
+        let lead = self.schedule.lead();
+        (2 * (n.saturating_sub(lead) / 2) + lead).saturating_sub(1)
+    }
+
+    // What stands against an offer of this piece into a buffer of `room` blocks.
+    pub(crate) fn check_offer(&self, piece: &[u64], room: usize) -> Result<(), Fault>
+        ensures { says result ≡ judged (offer_rows (S.ranges self.now.schedule) self.now.held.count piece.now room) tt }
+    {
+        let count = self.held.count;
+        let left = self.schedule.longest() - count;
+        if piece.len() as u64 > left {
+            return Err(Fault::Piece(PieceFault::RecordingTooLong(left)));
+        }
+        let front = front_below(self.schedule.base(), piece);
+        if front < piece.len() {
+            return Err(Fault::Piece(PieceFault::OfferedTooLarge(front as u64)));
+        }
+        check_room(room, self.due(count + piece.len() as u64) - self.due(count))
+    }
+
+    // How many end marks follow the blocks.
+    fn mark_count(&self) -> u64
+        ensures { result ≡ length (marks (S.ranges self.now.schedule) self.now.held.count) }
+    {
+        1 + (self.held.count + 1 - self.schedule.lead()) % 2
+    }
+
+    // What stands against a close into a buffer of `room` blocks.
+    pub(crate) fn check_close(&self, room: usize) -> Result<(), Fault>
+        ensures { says result ≡ judged (close_rows (S.ranges self.now.schedule) self.now.held.count room) tt }
+    {
+        let count = self.held.count;
+        check_room(room, count + self.mark_count() + 1 - self.due(count))
+    }
+
+    // Takes the end marks: what is held then, and the group that they complete. The first of two waits for the second.
+    fn take_marks(&mut self) -> (Held, Option<Group>)
+        ensures schedule { self.new.schedule ≡ self.old.schedule }
+        ensures count { result.0.count ≡ self.old.held.count + length (marks (S.ranges self.old.schedule) self.old.held.count) }
+        ensures sized { Sized result.0 }
+        ensures long { length (completed result.1) + 2 ≡ close_writes (S.ranges self.old.schedule) self.old.held.count }
+        ensures grows { let R = S.ranges self.old.schedule in (ss : List ℕ) → Holds R ss self.old.held → Grows R ss (marks R self.old.held.count) result.0 (completed result.1) }
+    {
+        let mark = self.schedule.end_mark();
+        let two = self.mark_count() == 2;
+        if two {
+            self.push(mark);
+        }
+        self.after(mark)
+    }
+
+    // Writes the remaining groups with the closing group, whose carrier is 0, and answers how many blocks that are.
+    pub(crate) fn finish(mut self, buffer: &mut [u64]) -> usize
+    where
+        S: Drop,
+        requires room { close_writes (S.ranges self.schedule) self.held.count ≤ length buffer.old }
+        ensures wrote { result ≡ close_writes (S.ranges self.schedule) self.held.count }
+        ensures behind { drop result buffer.new ≡ drop result buffer.old }
+        ensures closes { let R = S.ranges self.schedule in (blocks : List ℕ) → Holds R blocks self.held → stream R blocks ≡ complete R blocks ++ take result buffer.new }
+    {
+        let (last, group) = self.take_marks();
+        let at = put(buffer, 0, group);
+        let j = last.count.saturating_sub(self.schedule.lead()) / 2;
+        let closing = second_pass(&self.schedule, j, 0, last.spill);
+        put(buffer, at, Some(closing))
+    }
 }
 
-// Puts a group into the buffer at `at`, and answers the place behind it.
-fn put(buffer: &mut [u64], at: usize, group: Group) -> usize
-    requires { at + length (group_blocks group) ≤ length buffer.old }
-    ensures place { result ≡ at + length (group_blocks group) }
-    ensures front { take result buffer.new ≡ take at buffer.old ++ group_blocks group }
+// Puts a group, if there is one, into the buffer at `at`, and answers the place behind it.
+fn put(buffer: &mut [u64], at: usize, group: Option<Group>) -> usize
+    requires { at + length (completed group) ≤ length buffer.old }
+    ensures place { result ≡ at + length (completed group) }
+    ensures front { take result buffer.new ≡ take at buffer.old ++ completed group }
     ensures behind { drop result buffer.new ≡ drop result buffer.old }
 {
     match group {
-        Group::Nothing => at,
-        Group::One(w) => {
+        None => at,
+        Some(Group::One(w)) => {
             buffer[at] = w;
             at + 1
         }
-        Group::Two(v, w) => {
+        Some(Group::Two(v, w)) => {
             buffer[at] = v;
             buffer[at + 1] = w;
             at + 2
         }
     }
-}
-
-// Takes symbols one after another, and puts each group that they complete into the buffer, from its front. Answers what
-// is held then, and how many blocks were written.
-pub(crate) fn run<S: Schedule>(
-    schedule: &S,
-    start: Held,
-    symbols: &[u64],
-    buffer: &mut [u64],
-) -> (Held, usize)
-    requires count { start.count + length symbols.now < 2 ^ 32 }
-    requires sized { Sized start }
-    requires below { AllByRecursion (λ x. x ≤ 16777216) symbols.now }
-    requires room { offer_writes (S.ranges schedule.now) start.count (length symbols.now) ≤ length buffer.old }
-    ensures count { result.0.count ≡ start.count + length symbols.now }
-    ensures sized { Sized result.0 }
-    ensures wrote { result.1 ≡ offer_writes (S.ranges schedule.now) start.count (length symbols.now) }
-    ensures behind { drop result.1 buffer.new ≡ drop result.1 buffer.old }
-    ensures grows { (ss : List ℕ) → start.count + length symbols.now ≤ (S.ranges schedule.now).lead + 2 * (S.ranges schedule.now).steps → Holds (S.ranges schedule.now) ss start → Grows (S.ranges schedule.now) ss symbols.now result.0 (take result.1 buffer.new) }
-{
-    let mut held = start;
-    let mut at = 0;
-    for x in symbols {
-        let (next, group) = advance(schedule, held, *x);
-        held = next;
-        at = put(buffer, at, group);
-    }
-    (held, at)
-}
-
-// How many blocks have been written once n symbols are known.
-fn due<S: Schedule>(schedule: &S, n: u64) -> u64
-    requires { n < 2 ^ 32 }
-    ensures { result ≡ due (S.ranges schedule.now) n }
-{
-    let lead = schedule.lead();
-    (2 * (n.saturating_sub(lead) / 2) + lead).saturating_sub(1)
 }
 
 // Whether a buffer of `room` blocks takes what would be written.
@@ -125,82 +193,4 @@ fn check_room(room: usize, needed: u64) -> Result<(), Fault>
         return Err(Fault::Piece(PieceFault::BufferTooShort(needed)));
     }
     Ok(())
-}
-
-// What stands against an offer of this piece into a buffer of `room` blocks.
-pub(crate) fn check_offer<S: Schedule>(
-    schedule: &S,
-    count: u64,
-    piece: &[u64],
-    room: usize,
-) -> Result<(), Fault>
-    requires { count < 2 ^ 18 }
-    ensures { says result ≡ judged (offer_rows (S.ranges schedule.now) count piece.now room) tt }
-{
-    let longest = longest(schedule);
-    let left = longest.saturating_sub(count);
-    if count > longest || piece.len() as u64 > left {
-        return Err(Fault::Piece(PieceFault::RecordingTooLong(left)));
-    }
-    let front = front_below(schedule.base(), piece);
-    if front < piece.len() {
-        return Err(Fault::Piece(PieceFault::OfferedTooLarge(front as u64)));
-    }
-    check_room(
-        room,
-        due(schedule, count + piece.len() as u64) - due(schedule, count),
-    )
-}
-
-// How many end marks follow `count` blocks.
-fn mark_count<S: Schedule>(schedule: &S, count: u64) -> usize
-    requires { count < 2 ^ 18 }
-    ensures { result ≡ length (marks (S.ranges schedule.now) count) }
-{
-    if (count + 1 - schedule.lead()) % 2 == 0 {
-        1
-    } else {
-        2
-    }
-}
-
-// What stands against a close into a buffer of `room` blocks.
-pub(crate) fn check_close<S: Schedule>(schedule: &S, count: u64, room: usize) -> Result<(), Fault>
-    requires { count < 2 ^ 18 }
-    ensures { says result ≡ judged (close_rows (S.ranges schedule.now) count room) tt }
-{
-    check_room(
-        room,
-        count + mark_count(schedule, count) as u64 + 1 - due(schedule, count),
-    )
-}
-
-// Takes the end marks, and writes the groups that they complete.
-fn take_marks<S: Schedule>(schedule: &S, held: Held, buffer: &mut [u64]) -> (Held, usize)
-    requires small { Small held }
-    requires room { close_writes (S.ranges schedule.now) held.count ≤ length buffer.old }
-    ensures count { result.0.count ≡ held.count + length (marks (S.ranges schedule.now) held.count) }
-    ensures sized { Sized result.0 }
-    ensures wrote { result.1 + 2 ≡ close_writes (S.ranges schedule.now) held.count }
-    ensures behind { drop result.1 buffer.new ≡ drop result.1 buffer.old }
-    ensures grows { (ss : List ℕ) → held.count ≤ longest (S.ranges schedule.now) → Holds (S.ranges schedule.now) ss held → Grows (S.ranges schedule.now) ss (marks (S.ranges schedule.now) held.count) result.0 (take result.1 buffer.new) }
-{
-    let mark = end_mark(schedule);
-    let marks = [mark, mark];
-    let count = mark_count(schedule, held.count);
-    run(schedule, held, &marks[0..count], buffer)
-}
-
-// Writes the remaining groups with the closing group, whose carrier is 0, and answers how many blocks that are.
-pub(crate) fn finish<S: Schedule>(schedule: &S, held: Held, buffer: &mut [u64]) -> usize
-    requires small { Small held }
-    requires room { close_writes (S.ranges schedule.now) held.count ≤ length buffer.old }
-    ensures wrote { result ≡ close_writes (S.ranges schedule.now) held.count }
-    ensures behind { drop result buffer.new ≡ drop result buffer.old }
-    ensures closes { (blocks : List ℕ) → held.count ≤ longest (S.ranges schedule.now) → Holds (S.ranges schedule.now) blocks held → stream (S.ranges schedule.now) blocks ≡ complete (S.ranges schedule.now) blocks ++ take result buffer.new }
-{
-    let (last, at) = take_marks(schedule, held, buffer);
-    let j = last.count.saturating_sub(schedule.lead()) / 2;
-    let closing = second_pass(schedule, j, 0, last.spill);
-    put(buffer, at, closing)
 }

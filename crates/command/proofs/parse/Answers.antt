@@ -1,14 +1,10 @@
-use Rattle.std.proofs.Common.{◌<◌, length, refl, arith}
-use Rattle.std.proofs.lemmas.Bool.Decides.{nat_tests}
-use Rattle.command.proofs.Rests.{first_is, says_some, says_none}
+use Rattle.std.proofs.Common.{◌≡◌, ℕ, List, get_or, vec_items, refl, arith, rules}
+use Rattle.std.specs.Option.{option_map}
+use Rattle.command.specs.Lines.{given}
+use Rattle.command.proofs.Rests.{first_is, says}
 use Rattle.command.proofs.parse.Goals as goal
 
-pub returns-in-Some : goal.returns-in-Some
-returns-in-Some c =
-    let some : 0 < length c.args.line.now = grind (arith, nat_tests) in
-    says_some c.args.line.now _ _ (first_is c.args.line.now _ some refl) _ (rw c.in-Some.is at c.in_ok-numbers.ensures)
-
-pub returns-in-None : goal.returns-in-None
-returns-in-None c =
-    let some : 0 < length c.args.line.now = grind (arith, nat_tests) in
-    says_none c.args.line.now _ _ (first_is c.args.line.now _ some refl) (rw c.in-None.is at c.in_ok-numbers.ensures)
+pub returns : goal.returns
+returns c =
+    let answer : given c.map.result ≡ option_map {U = ℕ × List ℕ} (λ ns. (get_or c.args.line.now 0 0, ns)) (option_map vec_items c.in_ok-numbers.field-0) = search rules in
+    rw answer (says c.args.line.now _ _ (first_is c.args.line.now _ (omega arith) refl) _ c.in_ok-numbers.ensures)
