@@ -1,24 +1,20 @@
 -- What a lookup finds in the stream of a recording.
-use Rattle.std.proofs.Common.{◌≡◌, ℕ, zero, suc, ◌+◌, ◌-◌, ◌*◌, ◌%◌, ◌<◌, ◌≤◌, false, cond, eqb, ltb, List, ◌∷◌, ◌++◌, length, get_or, take, drop, Ok, Result, sym, refl, ap, ◌∙◌, mod-lt, div-add-mod', arith}
+use Rattle.std.proofs.Common.{◌≡◌, ℕ, zero, suc, ◌+◌, ◌-◌, ◌*◌, ◌%◌, ◌<◌, ◌≤◌, false, cond, eqb, ltb, List, ◌∷◌, ◌++◌, length, get_or, take, drop, Result, refl, ap, ◌∙◌, mod-lt, div-add-mod', arith}
 use Rattle.std.specs.List.{AllByRecursion}
 use Rattle.std.proofs.lemmas.Bool.Decides.{nat_tests}
-use Rattle.std.proofs.ByRecursion.{All-drop, All-take}
+use Rattle.schedule.proofs.Each.{each_drop, each_take}
 use Rattle.schedule.specs.Faults.{judged}
 use Rattle.schedule.specs.Ranges.{Ranges, Lawful, alphabet, end_mark}
-use Rattle.schedule.proofs.Judged.{judged_clear, clear_then}
 use Rattle.writer.specs.Stream.{first_spill, first_pass, closed}
 use Rattle.writer.specs.Holding.{last_spill}
-use Rattle.writer.specs.Passes.{pair_of, second_pass_back}
 use Rattle.writer.specs.Calls.{front_below}
 use Rattle.writer.proofs.Fronts.{front_all}
 use Rattle.writer.proofs.Inverse.{spill_below}
 use Rattle.writer.proofs.Shape.{two_blocks}
 use Rattle.writer.proofs.Opening.{last_spill_below}
-use Rattle.reader.specs.Back.{carrier_rows}
 use Rattle.reader.proofs.Limits.{below_limit}
 use Rattle.reader.proofs.Pairs.{passes_answer}
-use Rattle.access.specs.Lookup.{start, part, earlier, later, pair_in, no_place, large_rows, groups_rows, mark_rows, pair_symbol, pair_place_rows, lead_symbol, lead_place_rows}
-use Rattle.access.proofs.Placing.{groups_answer}
+use Rattle.access.specs.Lookup.{start, part, earlier, later, no_place, mark_rows, pair_symbol, pair_place_rows, lead_symbol, lead_place_rows}
 use Rattle.access.proofs.Middle.{Headed, headed, head, earlier_number, later_number}
 
 -- The answer where the symbol x stands at place p.
@@ -50,14 +46,10 @@ module _ (R : Ranges) (law : Lawful R) (i y s t : ℕ) (xs rest : List ℕ) (lon
       let pair = answers.first (start R i + length here - 1) i s t (omega arith) hs ht order in
       let earlier_is = ap (λ (bs : List ℕ). earlier R (part R bs i)) is ∙ earlier_number R law i y s t xs rest long fits in
       let later_is = ap (λ (bs : List ℕ). later R (part R bs i)) is ∙ later_number R law i y s t xs rest long fits in
-      let groups = groups_answer R i (start R i) here _ _ (Ok (s, t)) (suc i) _ _ _ _ refl (sym earlier_is) (sym later_is) refl refl
-      (sym early) (sym late) (sym pair) in
-      let found = judged_clear (groups_rows R i (start R i) here) (pair_of R (pair_in R i here)) (s, t) groups in
-      let blocks_below = All-take (λ x. x < R.base) (start R (i + 2) - start R i) (drop (start R i) blocks)
-      (All-drop (λ x. x < R.base) (start R i) blocks below) in
-      clear_then ((30, p, no_place R blocks p (start R (i + 2))) ∷ (large_rows R (start R i) here ++ groups_rows R i (start R i) here))
-      (mark_rows R p (pair_symbol R blocks p i)) (pair_symbol R blocks p i) (n, (none_too_large R here blocks_below, found.0))
-      ∙ ap (λ (u : ℕ × ℕ). found_at R p (cond (eqb ((p - 1 - R.lead) % 2) 0) u.0 u.1)) (sym found.1)
+      let blocks_below = each_take (λ x. x < R.base) (start R (i + 2) - start R i) (drop (start R i) blocks)
+      (each_drop (λ x. x < R.base) (start R i) blocks below) in
+      let fitting = none_too_large R here blocks_below in
+      grind (arith, nat_tests)
 
 pub spill_first : (lead : ℕ) (ss : List ℕ) → 1 ≤ lead → first_spill lead ss ≡ get_or ss 0 0
 spill_first zero ss h = absurd (omega arith)
@@ -77,8 +69,5 @@ module _ (R : Ranges) (law : Lawful R) (one : R.lead ≡ 1) (y : ℕ) (zs : List
       ∙ ap (λ (bs : List ℕ). later R (take 2 (bs ++ front.rest))) (two_blocks R.lead R.base 0 v (omega arith))
       ∙ div-add-mod' v R.base in
       let answer = (passes_answer R).second 1 0 front.carrier y (omega arith) front.below hy in
-      let rows = carrier_rows R 1 0 (later R (take 2 blocks)) in
-      let found = judged_clear rows (second_pass_back R 0 (later R (take 2 blocks))) (front.carrier, y) (cc) in
-      clear_then ((30, p, no_place R blocks p 2) ∷ (large_rows R 0 (take 2 blocks) ++ rows)) (mark_rows R p (lead_symbol R blocks))
-      (lead_symbol R blocks) (n, (none_too_large R (take 2 blocks) (All-take (λ x. x < R.base) 2 blocks below), found.0))
-      ∙ ap (λ (u : ℕ × ℕ). found_at R p u.1) (sym found.1)
+      let fitting = none_too_large R (take 2 blocks) (each_take (λ x. x < R.base) 2 blocks below) in
+      grind (arith, nat_tests)

@@ -1,19 +1,22 @@
 -- On the stream of a recording, a lookup answers its blocks and refuses every other place.
-use Rattle.std.proofs.Common.{◌≡◌, ℕ, ◌+◌, ◌-◌, ◌*◌, ◌/◌, ◌%◌, ◌<◌, ◌≤◌, cond, eqb, ◌⊎◌, List, ◌∷◌, ◌++◌, length, get_or, take, drop, Ok, Err, Result, sym, refl, ap, ◌∙◌, inl, inr, ⊎_elim, arith}
+use Rattle.std.proofs.Common.{◌≡◌, ℕ, ◌+◌, ◌-◌, ◌*◌, ◌/◌, ◌%◌, ◌<◌, ◌≤◌, false, cond, eqb, ◌⊎◌, List, ◌∷◌, ◌++◌, length, get_or, take, drop, Ok, Err, Result, sym, refl, ap, ◌∙◌, inl, inr, ⊎_elim, arith}
 use Rattle.std.proofs.lemmas.Bool.{cases_lt}
 use Rattle.std.proofs.lemmas.Bool.Decides.{nat_tests}
 use Rattle.std.proofs.lemmas.List.{length-take-le, length-drop, take-append-drop, drop_more, get_or-drop}
-use Rattle.std.proofs.ByRecursion.{All-get_or, All-take}
+use Rattle.schedule.proofs.Each.{each_at, each_take}
 use Rattle.schedule.specs.declared.fault.Fault.{Fault}
 use Rattle.schedule.specs.Faults.{says, judged}
 use Rattle.schedule.specs.Ranges.{Ranges, Lawful, alphabet, end_mark}
 use Rattle.writer.specs.Stream.{Valid, symbols, first_spill, closed, stream}
 use Rattle.writer.specs.Laws.{StreamShape}
 use Rattle.writer.proofs.Shape.{SymbolsFit, symbols_fit, stream_shape}
-use Rattle.access.specs.Lookup.{start, pair_symbol, pair_place_rows, lead_symbol, lead_place_rows, lookup_rows, symbol, LooksUp}
-use Rattle.access.proofs.Placing.{there}
+use Rattle.access.specs.Lookup.{start, no_place, pair_symbol, pair_place_rows, lead_symbol, lead_place_rows, lookup_rows, symbol, LooksUp}
 use Rattle.access.proofs.Symbols.{is_block, block_below, is_mark, in_order}
 use Rattle.access.proofs.Finding.{found_at, pair_found, spill_first, lead_found}
+
+-- There is such a place.
+there : (R : Ranges) (xs : List ℕ) (p end : ℕ) → 1 ≤ p → p ≤ R.lead + 2 * R.steps → end ≤ length xs → no_place R xs p end ≡ false
+there R xs p end h k l = grind (arith, nat_tests)
 
 by_parity : (v s t : ℕ) (ss : List ℕ) (k q : ℕ) → s ≡ get_or ss k 0 → t ≡ get_or ss (k + 1) 0 → q ≡ k + v → v < 2 → cond (eqb v 0) s t ≡ get_or ss q 0
 by_parity v s t ss k q e f g h = grind (arith, nat_tests)
@@ -68,8 +71,8 @@ module _ (R : Ranges) (law : Lawful R) (xs : List ℕ) (v : Valid R xs) where
       let long : length (take k d) ≡ k = length-take-le k d (omega arith) in
       let fits : 2 * i + length rest + 2 ≤ 2 * R.steps = omega (arith, length-drop (k + 1 + 1) d) in
       let order : s ≡ end_mark R → t ≡ end_mark R = λ e. t_is ∙ in_order R law xs v (R.lead + k) (omega arith) (sym s_is ∙ e) in
-      pair_found R law i y s t (take k d) rest long fits f.first_below (All-take (λ x. x < alphabet R) k d f.below)
-      (All-get_or (λ x. x < alphabet R) d k 0 a f.below) (All-get_or (λ x. x < alphabet R) d (k + 1) 0 b f.below) order
+      pair_found R law i y s t (take k d) rest long fits f.first_below (each_take (λ x. x < alphabet R) k d f.below)
+      (each_at (λ x. x < alphabet R) d k 0 a f.below) (each_at (λ x. x < alphabet R) d (k + 1) 0 b f.below) order
       whole (ap (closed R 0 y) parts) g.below p (there R whole p (start R (i + 2)) (omega arith) (omega arith) (omega arith))
       ∙ ap (found_at R p) (by_parity ((p - 1 - R.lead) % 2) s t ss (R.lead + k) (p - 1) s_is t_is (omega arith) (omega arith))
 
@@ -103,8 +106,12 @@ module _ (R : Ranges) (law : Lawful R) (xs : List ℕ) (v : Valid R xs) where
   other_refused p h =
       ⊎_elim (λ e. beyond p (inl e)) (λ l. ⊎_elim (λ k. beyond p (inr k)) (mark_refused p l) (cases_lt (length ss) p)) h
 
+-- The first clause of a lookup, and that the second follows from it.
+abbrev pub Answers : Ranges → List ℕ → ℕ → Result ℕ Fault → Type 0
+Answers R blocks p answer = says answer ≡ judged (lookup_rows R blocks p) (symbol R blocks p)
+
 pub law_holds : (R : Ranges) → Lawful R → (blocks : List ℕ) (p : ℕ) (answer : Result ℕ Fault) →
-    says answer ≡ judged (lookup_rows R blocks p) (symbol R blocks p) → LooksUp R blocks p answer
+    Answers R blocks p answer → LooksUp R blocks p answer
 law_holds R law blocks p answer e xs v is =
     let same = e ∙ ap (λ (bs : List ℕ). judged (lookup_rows R bs p) (symbol R bs p)) is in
     (λ l h. from_says answer (get_or xs (p - 1) 0) (same ∙ block_answered R law xs v p l h), λ h. same ∙ other_refused R law xs v p h)

@@ -1,4 +1,3 @@
-pub mod Placing
 pub mod Symbols
 pub mod Middle
 pub mod Finding

@@ -2,7 +2,7 @@
 use Rattle.std.proofs.Common.{◌≡◌, ℕ, ◌+◌, ◌-◌, ◌<◌, ◌≤◌, List, [], ◌∷◌, length, get_or, sym, refl, subst, ⊎_elim, arith}
 use Rattle.std.proofs.lemmas.Bool.{cases_lt}
 use Rattle.std.proofs.lemmas.List.{length-append, get_or_append_left, get_or-append_right, get_or-take}
-use Rattle.std.proofs.ByRecursion.{All-get_or}
+use Rattle.schedule.proofs.Each.{each_at}
 use Rattle.schedule.specs.Ranges.{Ranges, Lawful, end_mark}
 use Rattle.writer.specs.Stream.{Valid, marks, symbols}
 use Rattle.writer.proofs.Closing.{marked}
@@ -18,7 +18,7 @@ module _ (R : Ranges) (law : Lawful R) (xs : List ℕ) (v : Valid R xs) where
   is_block k h = get_or_append_left xs (marks R n) 0 k h
 
   pub block_below : (k : ℕ) → k < n → get_or ss k 0 < R.base
-  block_below k h = subst (λ (x : ℕ). x < R.base) (sym (is_block k h)) (All-get_or (λ x. x < R.base) xs k 0 h v.below)
+  block_below k h = subst (λ (x : ℕ). x < R.base) (sym (is_block k h)) (each_at (λ x. x < R.base) xs k 0 h v.below)
 
   pub is_mark : (k : ℕ) → n ≤ k → k < length ss → get_or ss k 0 ≡ end_mark R
   is_mark k h l =

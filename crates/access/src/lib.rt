@@ -1,19 +1,21 @@
 // Lookup: one block of a stream, from the groups that hold it.
 #![tactic(auto)]
 
-ghost use Rattle.std.specs.Prelude.{◌≡◌, ℕ, ◌+◌, ◌*◌, ◌^◌, ◌<◌, ◌≤◌, ◌++◌, ◌==◌, cond, length, IfOk, slice_index};
+ghost use Rattle.std.specs.Prelude.{◌≡◌, ℕ, ◌+◌, ◌*◌, ◌^◌, ◌<◌, ◌≤◌, ◌∷◌, ◌++◌, ◌==◌, cond, length, nat_lt, IfOk, slice_index, slice_range};
 ghost use Rattle.std.specs.Result.{result_map_both};
 ghost use Rattle.schedule.specs.Faults.{number_place, says, judged};
 ghost use Rattle.writer.specs.Passes.{pair_of, second_pass_back};
 ghost use Rattle.reader.specs.Back.{carrier_rows};
-ghost use Rattle.access.specs.Lookup.{start, later, pair_in, large_rows, groups_rows, mark_rows, part_symbol, pair_symbol, pair_place_rows, lead_symbol, lead_place_rows, lookup_rows, symbol, LooksUp};
+ghost use Rattle.access.specs.Lookup.{start, later, pair_in, large_rows, groups_rows, mark_rows, part_symbol, lookup_rows, symbol, LooksUp};
 
 use reader::back::{first_pass_back, second_pass_back};
 use schedule::fault::{Fault, LookupFault, SecondPassFault};
 use schedule::interface::Schedule;
+use std::ops::Range;
 use writer::blocks::front_below;
 
-// One group, or two in a row: a part of a stream, its blocks all below the base, and the index of its first block.
+// One group, or two in a row: a part of a stream, its blocks all below the base, and the index of its first block. The
+// place and the pair that are asked for are no fields, since they are no part of what stands in the stream.
 #[derive(Drop)]
 struct Groups<'a, S: Schedule> {
     schedule: &'a S,
@@ -24,12 +26,21 @@ struct Groups<'a, S: Schedule> {
 }
 
 impl<'a, S: Schedule> Groups<'a, S> {
-    // The groups of a part that begins at index `first`. Refuses with 20.
-    fn new(schedule: &'a S, part: &'a [u64], first: usize) -> Result<Groups<'a, S>, Fault>
-        requires { (length part.now ≤ 4) × (first < 2 ^ 20) }
-        ensures answers { result_map_both (λ x. x.first) number_place result ≡ judged (large_rows (S.ranges schedule.now) first part.now) first }
-        ensures holds { IfOk result (λ x. (x.schedule.now ≡ schedule.now) × (x.part.now ≡ part.now)) }
+    // The groups in this range of the stream. Refuses with 30 where the stream ends before them, and with 20.
+    fn at(
+        schedule: &'a S,
+        stream: &'a [u64],
+        range: Range<usize>,
+        p: u64,
+    ) -> Result<Groups<'a, S>, Fault>
+        requires { (range.start ≤ range.end) × (range.end ≤ range.start + 4) × (range.start < 2 ^ 20) }
+        ensures answers { let part = slice_range stream.now range.start range.end in result_map_both (λ x. x.first) number_place result ≡ judged ((30, p, nat_lt (length stream.now) range.end) ∷ large_rows (S.ranges schedule.now) range.start part) range.start }
+        ensures holds { IfOk result (λ x. (x.schedule.now ≡ schedule.now) × (x.part.now ≡ slice_range stream.now range.start range.end)) }
     {
+        let first = range.start;
+        let Some(part) = stream.get(range) else {
+            return Err(Fault::Lookup(LookupFault::NoSuchPlace(p)));
+        };
         let front = front_below(schedule.base(), part);
         if front < part.len() {
             return Err(Fault::SecondPass(SecondPassFault::TakenTooLarge((first + front) as u64)));
@@ -66,6 +77,16 @@ impl<'a, S: Schedule> Groups<'a, S> {
         first_pass_back(self.schedule, j, carrier, spill, last)
     }
 
+    // A symbol at place p, unless it is the end mark.
+    fn block_of(&self, p: u64, symbol: u64) -> Result<u64, Fault>
+        ensures { says result ≡ judged (mark_rows (S.ranges self.now.schedule.now) p symbol) symbol }
+    {
+        if symbol == self.schedule.end_mark() {
+            return Err(Fault::Lookup(LookupFault::NoSuchPlace(p)));
+        }
+        Ok(symbol)
+    }
+
     // The block at place p, in the pair j. Refuses with 21, 22, 23 or 30.
     fn in_pair(&self, p: u64, j: u64) -> Result<u64, Fault>
         requires { (3 ≤ length self.now.part.now) × (j < 2 ^ 20) × ((S.ranges self.now.schedule.now).lead < p) }
@@ -73,7 +94,7 @@ impl<'a, S: Schedule> Groups<'a, S> {
     {
         let (s, t) = self.pair(j)?;
         let even = (p - 1 - self.schedule.lead()) % 2 == 0;
-        block_of(self.schedule, p, if even { s } else { t })
+        self.block_of(p, if even { s } else { t })
     }
 
     // The block at place p, in the lead: the spill of group 0. Refuses with 21 or 30.
@@ -82,7 +103,7 @@ impl<'a, S: Schedule> Groups<'a, S> {
         ensures { let R = S.ranges self.now.schedule.now in let w = later R self.now.part.now in let x = (second_pass_back R 0 w).1 in says result ≡ judged (carrier_rows R 1 0 w ++ mark_rows R p x) x }
     {
         let (_, spill) = second_pass_back(self.schedule, 0, self.number(self.part), 1)?;
-        block_of(self.schedule, p, spill)
+        self.block_of(p, spill)
     }
 }
 
@@ -92,39 +113,6 @@ fn start<S: Schedule>(schedule: &S, j: u64) -> usize
     ensures { result ≡ start (S.ranges schedule.now) j }
 {
     (2 * j + schedule.lead()).saturating_sub(1) as usize
-}
-
-// A symbol at place p, unless it is the end mark.
-fn block_of<S: Schedule>(schedule: &S, p: u64, symbol: u64) -> Result<u64, Fault>
-    ensures { says result ≡ judged (mark_rows (S.ranges schedule.now) p symbol) symbol }
-{
-    if symbol == schedule.end_mark() {
-        return Err(Fault::Lookup(LookupFault::NoSuchPlace(p)));
-    }
-    Ok(symbol)
-}
-
-// The block at place p, in pair j.
-fn look_pair<S: Schedule>(schedule: &S, stream: &[u64], p: u64, j: u64) -> Result<u64, Fault>
-    requires { ((S.ranges schedule.now).lead < p) × (p ≤ (S.ranges schedule.now).lead + 2 * (S.ranges schedule.now).steps) × (j < 2 ^ 18) }
-    ensures { says result ≡ judged (pair_place_rows (S.ranges schedule.now) stream.now p j) (pair_symbol (S.ranges schedule.now) stream.now p j) }
-{
-    let (first, end) = (start(schedule, j), start(schedule, j + 2));
-    if stream.len() < end {
-        return Err(Fault::Lookup(LookupFault::NoSuchPlace(p)));
-    }
-    Groups::new(schedule, &stream[first..end], first)?.in_pair(p, j)
-}
-
-// The block at place 1, in group 0 with lead 1.
-fn look_lead<S: Schedule>(schedule: &S, stream: &[u64], p: u64) -> Result<u64, Fault>
-    requires { (1 ≤ p) × (p ≤ (S.ranges schedule.now).lead) }
-    ensures { says result ≡ judged (lead_place_rows (S.ranges schedule.now) stream.now p) (lead_symbol (S.ranges schedule.now) stream.now) }
-{
-    let Some(part) = stream.get(..2) else {
-        return Err(Fault::Lookup(LookupFault::NoSuchPlace(p)));
-    };
-    Groups::new(schedule, part, 0)?.in_lead(p)
 }
 
 // The block at place p, from 1, of a stream. Refuses with 30, 20, 21, 22 or 23.
@@ -137,8 +125,9 @@ pub fn lookup<S: Schedule>(schedule: &S, stream: &[u64], p: u64) -> Result<u64, 
         return Err(Fault::Lookup(LookupFault::NoSuchPlace(p)));
     }
     if p <= lead {
-        look_lead(schedule, stream, p)
-    } else {
-        look_pair(schedule, stream, p, (p - 1 - lead) / 2)
+        return Groups::at(schedule, stream, 0..2, p)?.in_lead(p);
     }
+    let j = (p - 1 - lead) / 2;
+    let range = start(schedule, j)..start(schedule, j + 2);
+    Groups::at(schedule, stream, range, p)?.in_pair(p, j)
 }

@@ -12,17 +12,17 @@ use std::io;
 
 // A kind's name, the widths that it is asked for, and at width 5 blocks that are taken and streams that are looked up
 // in, lawful ones and damaged ones.
-pub(crate) struct Kind {
+pub(crate) struct Kind<const LEADS: bool> {
     pub(crate) name: &'static str,
     pub(crate) widths: &'static [u64],
     pub(crate) takes: &'static [&'static [u64]],
     pub(crate) streams: &'static [&'static [u64]],
 }
 
-impl Kind {
-    pub(crate) fn cases<const LED: bool>(&self, page: &mut Page) -> io::Result<()> {
+impl<const LEADS: bool> Kind<LEADS> {
+    pub(crate) fn cases(&self, page: &mut Page) -> io::Result<()> {
         for width in self.widths {
-            match Fourfold::<LED>::new(*width) {
+            match Fourfold::<LEADS>::new(*width) {
                 Ok(schedule) => {
                     self.longest_case(page, *width, schedule)?;
                     self.lookup_longest(page, *width, schedule)?;
@@ -30,7 +30,7 @@ impl Kind {
                 Err(fault) => page.line(format_args!("{}: {fault}", self.name))?,
             }
         }
-        match Fourfold::<LED>::new(5) {
+        match Fourfold::<LEADS>::new(5) {
             Ok(schedule) => self.cases_at_5(page, schedule),
             Err(_) => Ok(()),
         }
@@ -88,17 +88,14 @@ impl Kind {
         let alloc = page.rt.alloc();
         let n = schedule.longest();
         let stream = written(alloc, schedule, &sample(alloc, &schedule, n)?)?;
-        let mut found = 0u64;
-        let mut total = 0u64;
-        for p in 0..n.saturating_add(5) {
-            match lookup(&schedule, &stream, p) {
-                Ok(block) => {
-                    found = found.saturating_add(1);
-                    total = mix(total, block);
-                }
-                Err(fault) => total = mix(total, fault.number().wrapping_add(fault.place())),
-            }
-        }
+        let end = n.saturating_add(5);
+        let found = (0..end)
+            .filter(|p| lookup(&schedule, &stream, *p).is_ok())
+            .count();
+        let total = (0..end).fold(0, |total, p| match lookup(&schedule, &stream, p) {
+            Ok(block) => mix(total, block),
+            Err(fault) => mix(total, fault.number().wrapping_add(fault.place())),
+        });
         page.line(format_args!(
             "{} {width}: {found} blocks found, checksum {total}",
             self.name

@@ -15,7 +15,7 @@ use page::Page;
 use schedule::fourfold::Sole;
 use std::io;
 
-const SOLE: Kind = Kind {
+const SOLE: Kind<false> = Kind {
     name: "SOLE",
     widths: &[5, 7, 8, 16, 24],
     takes: &[
@@ -47,7 +47,7 @@ const SOLE: Kind = Kind {
     ],
 };
 
-const LOSE: Kind = Kind {
+const LOSE: Kind<true> = Kind {
     name: "LOSE",
     widths: &[5, 8, 16, 24, 32],
     takes: &[
@@ -70,12 +70,12 @@ const LOSE: Kind = Kind {
 
 fn main(rt: HostRuntime) -> io::Result<()> {
     let mut page = Page { rt: &rt, lines: 0 };
-    SOLE.cases::<false>(&mut page)?;
+    SOLE.cases(&mut page)?;
     if let Ok(sole) = Sole::new(5) {
         offer_cases(&mut page, sole)?;
     }
     text_cases(&mut page)?;
-    LOSE.cases::<true>(&mut page)?;
+    LOSE.cases(&mut page)?;
     pack_cases(&mut page)?;
     println!(rt; "{} cases", page.lines)
 }

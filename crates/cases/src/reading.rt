@@ -26,7 +26,8 @@ pub(crate) fn taken<S: Schedule + Drop>(
     Ok(said)
 }
 
-// The blocks that a stream brings, with a number beyond every block for an end; short where a block is refused.
+// The blocks that a stream brings, with a number beyond every block for an end, as a checksum is of numbers; short where
+// a block is refused.
 pub(crate) fn read_back<S: Schedule + Drop>(
     alloc: Global,
     schedule: S,

@@ -21,29 +21,42 @@ pub(crate) fn sample<S: Schedule>(
         .collect(alloc)
 }
 
-// Offers one piece, and adds what it writes to the stream.
-fn offer<S: Schedule>(
-    recording: &mut Recording<S>,
-    piece: &[u64],
-    buffer: &mut [u64],
-    stream: &mut Vec<u64>,
-) -> Result<(), AllocError> {
-    if let Ok(n) = recording.offer(piece, buffer) {
-        stream.extend_from_slice(&buffer[0..n])?;
-    }
-    Ok(())
+// A recording that is being written, with the buffer of its calls and the stream so far.
+#[derive(Drop)]
+struct Writing<S: Schedule> {
+    recording: Recording<S>,
+    buffer: Vec<u64>,
+    stream: Vec<u64>,
 }
 
-// Closes, and adds what that writes to the stream.
-fn close<S: Schedule + Drop>(
-    recording: Recording<S>,
-    buffer: &mut [u64],
-    stream: &mut Vec<u64>,
-) -> Result<(), AllocError> {
-    if let Ok(n) = recording.close(buffer) {
-        stream.extend_from_slice(&buffer[0..n])?;
+impl<S: Schedule + Drop> Writing<S> {
+    fn open(alloc: Global, schedule: S, room: usize) -> Result<Writing<S>, AllocError> {
+        Ok(Writing {
+            recording: Recording::open(schedule),
+            buffer: vec![in alloc; 0u64; room]?,
+            stream: Vec::new(alloc),
+        })
     }
-    Ok(())
+
+    fn offer(&mut self, piece: &[u64]) -> Result<(), AllocError> {
+        if let Ok(n) = self.recording.offer(piece, &mut self.buffer) {
+            self.stream.extend_from_slice(&self.buffer[0..n])?;
+        }
+        Ok(())
+    }
+
+    // The whole stream.
+    fn close(self) -> Result<Vec<u64>, AllocError> {
+        let Writing {
+            recording,
+            mut buffer,
+            mut stream,
+        } = self;
+        if let Ok(n) = recording.close(&mut buffer) {
+            stream.extend_from_slice(&buffer[0..n])?;
+        }
+        Ok(stream)
+    }
 }
 
 // The stream of these blocks, offered in pieces of 0, 1, 2, .. blocks.
@@ -52,17 +65,14 @@ pub(crate) fn written<S: Schedule + Drop>(
     schedule: S,
     blocks: &[u64],
 ) -> Result<Vec<u64>, AllocError> {
-    let mut recording = Recording::open(schedule);
-    let mut stream = Vec::new(alloc);
-    let mut buffer = vec![in alloc; 0u64; blocks.len().saturating_add(4)]?;
+    let mut writing = Writing::open(alloc, schedule, blocks.len().saturating_add(4))?;
     let mut rest = blocks;
     for size in 0..blocks.len().saturating_add(1) {
         let (piece, more) = rest.split_at(size.min(rest.len()));
-        offer(&mut recording, piece, &mut buffer, &mut stream)?;
+        writing.offer(piece)?;
         rest = more;
     }
-    close(recording, &mut buffer, &mut stream)?;
-    Ok(stream)
+    writing.close()
 }
 
 // The stream of these blocks, cut where a bit of `cuts` is set, low bit first. The bits are halved away, since a shift by
@@ -73,20 +83,17 @@ pub(crate) fn written_cut<S: Schedule + Drop>(
     blocks: &[u64],
     cuts: u64,
 ) -> Result<Vec<u64>, AllocError> {
-    let mut recording = Recording::open(schedule);
-    let mut stream = Vec::new(alloc);
-    let mut buffer = vec![in alloc; 0u64; 8]?;
+    let mut writing = Writing::open(alloc, schedule, 8)?;
     let mut piece = Vec::new(alloc);
     let mut bits = cuts;
     for x in blocks {
         piece.push(*x)?;
         if bits % 2 == 1 {
-            offer(&mut recording, &piece, &mut buffer, &mut stream)?;
+            writing.offer(&piece)?;
             piece.clear();
         }
         bits /= 2;
     }
-    offer(&mut recording, &piece, &mut buffer, &mut stream)?;
-    close(recording, &mut buffer, &mut stream)?;
-    Ok(stream)
+    writing.offer(&piece)?;
+    writing.close()
 }

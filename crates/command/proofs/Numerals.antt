@@ -2,7 +2,7 @@
 use Rattle.std.proofs.Common.{◌≡◌, ℕ, ◌+◌, ◌<◌, ◌≤◌, ◌↔◌, List, [], ◌∷◌, ◌++◌, length, get_or, take, drop, sym, refl, ap, ◌∙◌, subst, inl, inr, arith}
 use Rattle.std.specs.List.{AllByRecursion}
 use Rattle.std.proofs.lemmas.List.{length-append, length-take-le, take-append-drop, get_or-take, get_or_append_left, get_or-append-add, take_at, drop_at}
-use Rattle.std.proofs.ByRecursion.{All-get_or, All-from_get_or}
+use Rattle.std.proofs.lemmas.List.Elements.{All-from_recursion, recursion_from_All, All-get_or, All-from_get_or}
 use Rattle.std.proofs.lemmas.Bool.{cases_order}
 use Rattle.command.specs.Lines.{space, Digit, Numeral, Fields, value_after}
 
@@ -18,10 +18,11 @@ module _ (text : List ℕ) (end : ℕ)
     (stops : end < length text → end < 9 → Digit (get_or text end 0) → ⊥) where
   pub all_digits : AllByRecursion Digit (take end text)
   all_digits =
-      All-from_get_or Digit (take end text) 0
+      recursion_from_All Digit (take end text)
+      (All-from_get_or Digit (take end text) 0
       (λ k h. let l = length-take-le end text within.0 in
       let h : k < end = omega arith in
-      subst Digit (sym (get_or-take end text k 0 h)) (digits k h))
+      subst Digit (sym (get_or-take end text k 0 h)) (digits k h)))
 
   -- A numeral that leads the text, with fields behind it, ends where the digits end.
   same_end : (n : ℕ) (ns numeral rest : List ℕ) → Numeral n numeral → Fields ns rest → text ≡ numeral ++ rest → length numeral ≡ end
@@ -35,7 +36,7 @@ module _ (text : List ℕ) (end : ℕ)
               (subst Digit (ap (λ (bs : List ℕ). get_or bs (length numeral) 0) e ∙ subst (λ (m : ℕ). get_or (numeral ++ rest) m 0 ≡ get_or rest 0 0) (omega arith) (get_or-append-add numeral rest 0 0)) (digits (length numeral) short))
           | inr long ↦
               stops (omega arith) (omega (arith, is.few))
-              (subst Digit (sym (ap (λ (bs : List ℕ). get_or bs end 0) e ∙ get_or_append_left numeral rest 0 end long)) (All-get_or Digit numeral end 0 long is.digits))
+              (subst Digit (sym (ap (λ (bs : List ℕ). get_or bs end 0) e ∙ get_or_append_left numeral rest 0 end long)) (All-get_or Digit numeral end 0 long (All-from_recursion Digit numeral is.digits)))
         ])
       ]
 

@@ -3,7 +3,6 @@ use Rattle.std.specs.Prelude.{◌≡◌, ℕ, ◌+◌, ◌-◌, ◌*◌, ◌<◌
 use Rattle.std.specs.List.{AllByRecursion}
 use denote.Ref.{Bor}
 use Rattle.command.specs.declared.Line.{Line}
-use Rattle.command.specs.declared.Lines.{Lines}
 use Rattle.command.specs.declared.CutOff.{CutOff}
 
 -- How many bytes of the input count.
@@ -54,13 +53,6 @@ pub record Cut (text line rest : List ℕ) : Type 0 where
 -- No line feed stands in these bytes.
 abbrev pub OneLine : List ℕ → Type 0
 OneLine bytes = AllByRecursion (λ c. c ≢ line_feed) bytes
-
--- What is left of an input's lines, and whether the input was cut off.
-abbrev pub text_left : Lines → List ℕ
-text_left lines = lines.text.now
-
-abbrev pub is_cut : Lines → Bool
-is_cut lines = lines.cut
 
 -- What comes next in a text, and what is left behind it: its first line; at its end the last line, which needs no line feed
 -- unless it was cut off; and nothing where nothing is left.

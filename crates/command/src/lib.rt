@@ -5,7 +5,7 @@ ghost use Rattle.std.specs.Prelude.{◌≡◌, ℕ, ◌<◌, ◌≤◌, ◌↔�
 ghost use Rattle.std.specs.Option.{option_map};
 ghost use Rattle.std.specs.List.{AllByRecursion};
 ghost use Rattle.std.specs.Iterator.{item_count};
-ghost use Rattle.command.specs.Lines.{Digit, Fields, Says, Cut, Comes, given, value_after, space, line_feed, most, text_left, is_cut};
+ghost use Rattle.command.specs.Lines.{Digit, Fields, Says, Cut, Comes, given, value_after, space, line_feed, most};
 
 use std::alloc::{AllocError, Global};
 use std::mem;
@@ -38,17 +38,18 @@ pub fn first_line(text: &[u8]) -> Option<(&[u8], &[u8])>
 #[derive(Clone, Copy, Debug, PartialEq, Eq)]
 pub struct CutOff;
 
-// The lines of an input, as far as it counts. Only a line feed ends a line; the last line needs none, unless it was cut off.
+// What is left of an input's lines, and whether the input was cut off. Only a line feed ends a line; the last line needs
+// none, unless it was cut off.
 #[derive(Clone, Debug, Drop)]
 pub struct Lines<'a> {
-    text: &'a [u8],
-    cut: bool,
+    pub text: &'a [u8],
+    pub cut: bool,
 }
 
 impl<'a> Lines<'a> {
-    // The bytes of an input that count, and whether it was cut off.
+    // The lines of the bytes of an input that count.
     pub fn new(input: &'a [u8]) -> Lines<'a>
-        ensures { (text_left result ≡ take most input.now) × (is_cut result ≡ nat_lt most (length input.now)) }
+        ensures { (result.text.now ≡ take most input.now) × (result.cut ≡ nat_lt most (length input.now)) }
     {
         let end = input.len().min(MOST);
         Lines {
@@ -56,22 +57,14 @@ impl<'a> Lines<'a> {
             cut: input.len() > MOST,
         }
     }
-
-    // Whether the input was cut off.
-    pub fn cut(&self) -> bool
-        ensures { result ≡ is_cut self.now }
-    {
-        self.cut
-    }
 }
 
 impl<'a> Iterator for Lines<'a> {
     type Item = Result<&'a [u8], CutOff>;
 
-    ghost next_gives = { λ before result after. Comes (is_cut before) (text_left before) result (text_left after)
-        × (is_cut after ≡ is_cut before) };
+    ghost next_gives = { λ before result after. Comes before.cut before.text.now result after.text.now × (after.cut ≡ before.cut) };
 
-    ghost remaining = { item_count text_left };
+    ghost remaining = { item_count (λ lines. lines.text.now) };
 
     fn next(&mut self) -> Option<Result<&'a [u8], CutOff>> {
         let text = mem::take(&mut self.text);
@@ -99,7 +92,7 @@ fn leading_digits(text: &[u8]) -> usize
         .count()
 }
 
-// The number that these digits write. In a `fold` each digit would have to show that the value fits, without its place.
+// The number that these digits write. Of a `fold` the check leaves `fold-requires-clause-callable` unproved.
 fn value(digits: &[u8]) -> u64
     requires short { length digits.now ≤ 9 }
     requires digits { AllByRecursion Digit digits.now }
@@ -125,10 +118,10 @@ fn number(text: &[u8]) -> Option<(u64, &[u8])>
 }
 
 // The numbers of these fields, each with one space before it; none where the fields are anything else.
-fn numbers(heap: Global, fields: &[u8]) -> Result<Option<Vec<u64>>, AllocError>
+fn numbers(alloc: Global, fields: &[u8]) -> Result<Option<Vec<u64>>, AllocError>
     ensures { IfOk result (λ o. (ns : List ℕ) → (option_map vec_items o ≡ Some ns) ↔ Fields ns fields.now) }
 {
-    let mut all = Vec::new(heap);
+    let mut all = Vec::new(alloc);
     let mut rest = fields;
     while let [b' ', text @ ..] = rest {
         let Some((value, after)) = number(text) else {
@@ -141,13 +134,13 @@ fn numbers(heap: Global, fields: &[u8]) -> Result<Option<Vec<u64>>, AllocError>
 }
 
 // The letter and the numbers of a line; none where the line is not a letter and numbers, each with one space before it.
-pub fn parse(heap: Global, line: &[u8]) -> Result<Option<Line>, AllocError>
+pub fn parse(alloc: Global, line: &[u8]) -> Result<Option<Line>, AllocError>
     ensures { IfOk result (λ o. (letter : ℕ) (ns : List ℕ) → (given o ≡ Some (letter, ns)) ↔ Says letter ns line.now) }
 {
     let [letter, fields @ ..] = line else {
         return Ok(None);
     };
-    Ok(numbers(heap, fields)?.map(|numbers| Line {
+    Ok(numbers(alloc, fields)?.map(|numbers| Line {
         letter: char::from(*letter),
         numbers,
     }))

@@ -1,5 +1,5 @@
 -- A reader that takes joined streams hands their recordings over.
-use Rattle.std.proofs.Common.{◌≡◌, ℕ, Bool, true, false, List, [], ◌∷◌, ◌++◌, map, Ok, Err, sym, refl, ap, ◌∙◌, subst, ap₂, append_assoc, arith}
+use Rattle.std.proofs.Common.{◌≡◌, ℕ, Bool, true, false, List, [], ◌∷◌, ◌++◌, map, Ok, Err, sym, refl, ap, ◌∙◌, subst, ap₂, append_assoc}
 use Rattle.std.specs.List.{AllByRecursion}
 use Rattle.std.proofs.lemmas.List.{map-append}
 use Rattle.schedule.specs.Ranges.{Ranges, Lawful}
@@ -57,13 +57,12 @@ module _ (R : Ranges) where
   takes_all : (bs : List ℕ) (g : Reading) (since xs : List ℕ) (more : List Request) (replies : List Reply) → Accepts R g since bs xs →
       Reads R g replies → map request replies ≡ map take_it bs ++ more → Handed R since xs more replies
   takes_all [] g since xs more replies a q e = absurd a
-  takes_all (b ∷ bs) g since xs more [] a q e = let z : ◌≡◌ {A = ℕ} 0 1 = cc in absurd (omega arith)
-  takes_all (b ∷ bs) g since xs more (stopped answer ∷ replies) a q e = let z : ◌≡◌ {A = ℕ} 0 1 = cc in absurd (omega arith)
+  takes_all (b ∷ bs) g since xs more [] a q e = absurd cc
+  takes_all (b ∷ bs) g since xs more (stopped answer ∷ replies) a q e = absurd cc
   takes_all (b ∷ bs) g since xs more (took c (Err f) ∷ replies) a q e =
       let same : c ≡ b = cc in
       let is = (rw same at q.1).answers ∙ a.1 in
-      let z : ◌≡◌ {A = ℕ} 0 1 = cc in
-      absurd (omega arith)
+      absurd cc
   takes_all (b ∷ bs) g since xs more (took c (Ok y) ∷ replies) a q e =
       let same : c ≡ b = cc in
       let rest : map request replies ≡ map take_it bs ++ more = cc in
@@ -76,11 +75,11 @@ module _ (R : Ranges) where
   -- A stop of a new reader.
   stops_new : (replies : List Reply) → Reads R started replies → map request replies ≡ stop_it ∷ [] →
       AllByRecursion Accepted replies × (handed [] replies ≡ [])
-  stops_new [] q e = let z : ◌≡◌ {A = ℕ} 0 1 = cc in absurd (omega arith)
-  stops_new (took b answer ∷ replies) q e = let z : ◌≡◌ {A = ℕ} 0 1 = cc in absurd (omega arith)
-  stops_new (stopped (Err f) ∷ replies) q e = let f = q.1.answers in let z : ◌≡◌ {A = ℕ} 0 1 = cc in absurd (omega arith)
+  stops_new [] q e = absurd cc
+  stops_new (took b answer ∷ replies) q e = absurd cc
+  stops_new (stopped (Err f) ∷ replies) q e = let f = q.1.answers in absurd cc
   stops_new (stopped (Ok u) ∷ []) q e = ((tt, tt), refl)
-  stops_new (stopped (Ok u) ∷ r ∷ replies) q e = let z : ◌≡◌ {A = ℕ} 0 1 = cc in absurd (omega arith)
+  stops_new (stopped (Ok u) ∷ r ∷ replies) q e = absurd cc
 
 module _ (R : Ranges) (law : Lawful R) where
   takes_joined : (xss : List (List ℕ)) → AllByRecursion (Valid R) xss → (replies : List Reply) → Reads R started replies →

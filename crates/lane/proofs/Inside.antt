@@ -4,7 +4,7 @@ use lib.Arith.{digits_div, digits_mod}
 use Rattle.std.specs.List.{AllByRecursion}
 use Rattle.std.proofs.lemmas.Bool.{eqb-true}
 use Rattle.std.proofs.lemmas.List.{length-append}
-use Rattle.std.proofs.ByRecursion.{All-append}
+use Rattle.schedule.proofs.Each.{each_append}
 use Rattle.std.proofs.lemmas.Bool.Decides.{nat_tests}
 use Rattle.schedule.specs.Ranges.{Ranges, Lawful, alphabet, end_mark}
 use Rattle.schedule.proofs.Sizes.{by_lead, spill_there}
@@ -105,14 +105,14 @@ module _ (R : Ranges) (law : Lawful R) where
         (symbols_even R since i k.long ∙ ap₂ (λ (a b : ℕ). since ++ a ∷ b ∷ []) (sym (eqb-true s m e)) (sym (eqb-true t m f))) (zero_at refl))
     by_marks true false e f h n zero_at = let c : ◌≡◌ {A = ℕ} 0 1 = cc in absurd (omega arith)
     by_marks false true e f h n zero_at =
-        ends (since ++ s ∷ []) (All-append (λ x. x < R.base) since (s ∷ []) k.below (a_block R s (mod-lt z some) e, tt))
+        ends (since ++ s ∷ []) (each_append (λ x. x < R.base) since (s ∷ []) k.below (a_block R s (mod-lt z some) e, tt))
         (omega (arith, length-append since (s ∷ [])))
         (symbols_odd R since i s k.long ∙ ap (λ (b : ℕ). since ++ s ∷ b ∷ []) (sym (eqb-true t m f))) (zero_at refl)
     by_marks false false e f h n zero_at =
         let grows = pair_grows R since i s t k.long in
         record {
           long = omega (arith, k.long, length-append since (s ∷ t ∷ []));
-          below = All-append (λ x. x < R.base) since (s ∷ t ∷ []) k.below
+          below = each_append (λ x. x < R.base) since (s ∷ t ∷ []) k.below
               (a_block R s (mod-lt z some) e, (a_block R t ((div-lt_iff_lt-mul some).1 h) f, tt));
           blocks = both r refl ∙ ap₂ (λ (cs : List ℕ) (v : ℕ). cs ++ group R (suc i) r v) (sym grows.writes) grows.holds.spill;
         }

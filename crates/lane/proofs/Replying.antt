@@ -1,5 +1,5 @@
 -- Every list of takes and stops has one run.
-use Rattle.std.proofs.Common.{◌≡◌, ℕ, zero, suc, ◌+◌, ◌*◌, ◌<◌, Bool, true, false, cond, ◌||◌, eqb, ltb, ◌⊎◌, List, [], ◌∷◌, ◌++◌, map, Some, None, Ok, Err, Option, Result, sym, refl, ap, ◌∙◌, subst, inl, inr, ⊎_elim, arith}
+use Rattle.std.proofs.Common.{◌≡◌, ℕ, zero, suc, ◌+◌, ◌*◌, ◌<◌, Bool, true, false, cond, ◌||◌, eqb, ltb, List, [], ◌∷◌, ◌++◌, Some, None, Ok, Err, Option, Result, sym, refl, ap, ◌∙◌, arith}
 use Rattle.std.proofs.lemmas.Bool.Decides.{nat_tests}
 use Rattle.schedule.specs.declared.fault.Fault.{Fault}
 use Rattle.schedule.specs.declared.fault.Fault.TheVariants.{SecondPass, FirstPass, Closing}
@@ -10,13 +10,14 @@ use Rattle.schedule.specs.Faults.{number_place, says, judged}
 use Rattle.schedule.specs.Ranges.{Ranges, Lawful, end_mark}
 use Rattle.schedule.proofs.Judged.{judged_clear, clear_judged}
 use Rattle.schedule.proofs.Table.{fault_of, fault_back, says_one, Listed, heard}
+use Rattle.writer.proofs.Runs.{exactly_one}
 use Rattle.reader.specs.declared.reading.Brought.{Brought}
 use Rattle.reader.specs.declared.reading.Brought.TheVariants.{Nothing, One, Two, End, OneThenEnd}
 use Rattle.reader.specs.declared.reading.Reading.{Reading}
 use Rattle.reader.specs.Reading.{brought, completes, lead_symbol, found, hands_over, pair_rows_before, started, InRange}
-use Rattle.reader.specs.Calls.{says_brought, whole_rows, whole_brings, take_rows, take_brings, after_whole, after_take, Takes, Stops}
+use Rattle.reader.specs.Calls.{says_brought, whole_rows, whole_brings, take_rows, take_brings, after_whole, after_take}
 use Rattle.reader.proofs.Taking.{reader_at, group_in_range}
-use Rattle.lane.specs.Reads.{Reply, Request, request, Reads, StoppedAtLast}
+use Rattle.lane.specs.Reads.{Reply, Request, request, ReplyMeets, stopping}
 use Rattle.lane.specs.Reads.Reply.{took, stopped}
 use Rattle.lane.specs.Reads.Request.{take_it, stop_it}
 use Rattle.lane.specs.Laws.{EveryListReads}
@@ -42,8 +43,8 @@ says_brought_one : (a b : Result Brought Fault) → says_brought a ≡ says_brou
 says_brought_one (Ok x) (Ok y) e =
     let same : brought x ≡ brought y = cc in
     ap Ok (sym (brought_back x) ∙ ap (λ (p : List ℕ × Bool). brings_back p.0 p.1) same ∙ brought_back y)
-says_brought_one (Ok x) (Err f) e = let z : ◌≡◌ {A = ℕ} 0 1 = cc in absurd (omega arith)
-says_brought_one (Err f) (Ok y) e = let z : ◌≡◌ {A = ℕ} 0 1 = cc in absurd (omega arith)
+says_brought_one (Ok x) (Err f) e = absurd cc
+says_brought_one (Err f) (Ok y) e = absurd cc
 says_brought_one (Err f) (Err g) e =
     let same : number_place f ≡ number_place g = cc in
     ap Err (sym (fault_back f) ∙ ap fault_of same ∙ fault_back g)
@@ -127,136 +128,28 @@ module _ (R : Ranges) (law : Lawful R) where
       let small : b < R.base = grind (arith, nat_tests) in
       whole_in_range R.lead g.count b g.step g.before g.low x refl r small (ap Ok c.1 ∙ sym (clear_judged (whole_rows R g w) (whole_brings R g w) c.0.1))
 
-  -- A take's answer, and what it leaves; and a stop's, which leaves the reader as it was.
-  answer_take : (g : Reading) (b : ℕ) → (answer : Result Brought Fault) × Takes R g b answer (after_take R g b answer)
-  answer_take g b =
+  -- Every take and every stop has an answer.
+  answer_request : (g : Reading) (a : Request) → Unit {0} → (c : Reply) × (g' : Reading) × (request c ≡ a) × ReplyMeets R g c g'
+  answer_request g (take_it b) _ =
       let a = heard_take R g b in
-      (a.0, record { answers = a.1; leaves = refl; in_range = take_in_range g b a.0 a.1 })
-
-  answer_stop : (g : Reading) → (answer : Result (Unit {0}) Fault) × Stops g answer g
-  answer_stop g =
+      (took b a.0, after_take R g b a.0, refl, record { answers = a.1; leaves = refl; in_range = take_in_range g b a.0 a.1 })
+  answer_request g stop_it _ =
       let a = heard ((26, g.count, ltb 0 g.count) ∷ []) tt ((Closing (CutShort _), refl), tt) in
-      (a.0, record { answers = a.1; leaves = refl })
+      (stopped a.0, g, refl, record { answers = a.1; leaves = refl })
 
-  -- A run on this reader, along a list: as Replies says it of a new one.
-  record Follows (g : Reading) (requests : List Request) (replies : List Reply) : Type 0 where
-    runs : Reads R g replies
-    in_order : (rest : List Request) × (requests ≡ map request replies ++ rest)
-    to_the_end : StoppedAtLast replies ⊎ (map request replies ≡ requests)
-
-  -- Every list has a run from every reader.
-  follow : (requests : List Request) (g : Reading) → (replies : List Reply) × Follows g requests replies
-  follow [] g = ([], record { runs = tt; in_order = ([], refl); to_the_end = inr refl })
-  follow (take_it b ∷ requests) g =
-      let a = answer_take g b in
-      let more = follow requests (after_take R g b a.0) in (
-        took b a.0 ∷ more.0,
-        record {
-          runs = (after_take R g b a.0, a.1, more.1.runs);
-          in_order = (more.1.in_order.0, ap (λ (later : List Request). take_it b ∷ later) more.1.in_order.1);
-          to_the_end = ⊎_elim (λ c. inl c) (λ e. inr (ap (λ (later : List Request). take_it b ∷ later) e)) more.1.to_the_end;
-        },
-      )
-  follow (stop_it ∷ requests) g =
-      let a = answer_stop g in
-      go a.0 a.1 (follow requests g)
-    where
-      go : (answer : Result (Unit {0}) Fault) → Stops g answer g → ((replies : List Reply) × Follows g requests replies) →
-          (replies : List Reply) × Follows g (stop_it ∷ requests) replies
-      go (Ok u) s more = (stopped (Ok u) ∷ [], record { runs = (g, s, refl); in_order = (requests, refl); to_the_end = inl tt })
-      go (Err f) s more = (
-        stopped (Err f) ∷ more.0,
-        record {
-          runs = (g, s, more.1.runs);
-          in_order = (more.1.in_order.0, ap (λ (later : List Request). stop_it ∷ later) more.1.in_order.1);
-          to_the_end = ⊎_elim (λ c. inl c) (λ e. inr (ap (λ (later : List Request). stop_it ∷ later) e)) more.1.to_the_end;
-        },
-      )
-
-  -- Two answers to one take are equal, and so are the readers after them.
-  takes_once : (g : Reading) (b : ℕ) (x y : Result Brought Fault) (g' g'' : Reading) → Takes R g b x g' → Takes R g b y g'' → (x ≡ y) × (g' ≡ g'')
-  takes_once g b x y g' g'' p q =
-      let same = says_brought_one x y (p.answers ∙ sym q.answers) in
-      (same, p.leaves ∙ ap (after_take R g b) same ∙ sym q.leaves)
-
-  -- Two answers to one stop are equal.
-  stops_once : (g : Reading) (x y : Result (Unit {0}) Fault) (g' g'' : Reading) → Stops g x g' → Stops g y g'' → x ≡ y
-  stops_once g x y g' g'' p q = says_one x y (p.answers ∙ sym q.answers)
-
-  -- The rest of a run follows the rest of its list.
-  after_took : (g : Reading) (a : Request) (requests : List Request) (b : ℕ) (answer : Result Brought Fault) (replies : List Reply) →
-      (p : Follows g (a ∷ requests) (took b answer ∷ replies)) → Follows p.runs.0 requests replies
-  after_took g a requests b answer replies p =
-      let same = p.in_order.1 in
-      record {
-        runs = p.runs.2;
-        in_order = (p.in_order.0, cc);
-        to_the_end = ⊎_elim (λ c. inl c) (λ e. inr (cc)) p.to_the_end;
-      }
-
-  after_stopped : (g : Reading) (a : Request) (requests : List Request) (f : Fault) (replies : List Reply) →
-      Follows g (a ∷ requests) (stopped (Err f) ∷ replies) → Follows g requests replies
-  after_stopped g a requests f replies p =
-      let same = p.in_order.1 in
-      record {
-        runs = subst (λ (k : Reading). Reads R k replies) p.runs.1.leaves p.runs.2;
-        in_order = (p.in_order.0, cc);
-        to_the_end = ⊎_elim (λ c. inl c) (λ e. inr (cc)) p.to_the_end;
-      }
-
-  -- A list is not answered by no reply and by some.
-  none_and_some : (g : Reading) (requests : List Request) (c : Reply) (replies : List Reply) → Follows g requests [] → Follows g requests (c ∷ replies) → ⊥
-  none_and_some g requests c replies p q =
-      let same = q.in_order.1 in
-      elim p.to_the_end [ inl e ↦ e | inr e ↦ let z : ◌≡◌ {A = ℕ} 0 1 = cc in omega arith ]
-
-  -- And no other.
-  follow_once : (requests : List Request) (g : Reading) (one other : List Reply) → Follows g requests one → Follows g requests other → one ≡ other
-  follow_once requests g [] [] p q = refl
-  follow_once requests g [] (c ∷ cs) p q = absurd (none_and_some g requests c cs p q)
-  follow_once requests g (c ∷ cs) [] p q = absurd (none_and_some g requests c cs q p)
-  follow_once [] g (c ∷ cs) (d ∷ ds) p q =
-      let e = p.in_order.1 in
-      let z : ◌≡◌ {A = ℕ} 0 1 = cc in absurd (omega arith)
-  follow_once (a ∷ requests) g (took b x ∷ cs) (took b' y ∷ ds) p q =
-      let e = p.in_order.1 in
-      let f = q.in_order.1 in
+  -- Two replies to the same are the same, and leave the same.
+  once : (g : Reading) (c d : Reply) (g' g'' : Reading) → Unit {0} → request c ≡ request d → ReplyMeets R g c g' → ReplyMeets R g d g'' →
+      (c ≡ d) × (stopping c ≡ false → g' ≡ g'')
+  once g (took b x) (took b' y) g' g'' _ e p q =
       let same_block : b' ≡ b = cc in
-      let once = takes_once g b x y p.runs.0 q.runs.0 p.runs.1 (subst (λ (i : ℕ). Takes R g i y q.runs.0) same_block q.runs.1) in
-      let same_answer = once.0 in
-      let more = follow_once requests p.runs.0 cs ds
-      (after_took g a requests b x cs p)
-      (subst (λ (k : Reading). Follows k requests ds) (sym once.1) (after_took g a requests b' y ds q)) in
-      cc
-  follow_once (a ∷ requests) g (took b x ∷ cs) (stopped y ∷ ds) p q =
-      let e = p.in_order.1 in
-      let f = q.in_order.1 in
-      let z : ◌≡◌ {A = ℕ} 0 1 = cc in absurd (omega arith)
-  follow_once (a ∷ requests) g (stopped x ∷ cs) (took b y ∷ ds) p q =
-      let e = p.in_order.1 in
-      let f = q.in_order.1 in
-      let z : ◌≡◌ {A = ℕ} 0 1 = cc in absurd (omega arith)
-  follow_once (a ∷ requests) g (stopped (Ok u) ∷ cs) (stopped (Ok v) ∷ ds) p q =
-      let none = p.runs.2 in
-      let none' = q.runs.2 in
-      cc
-  follow_once (a ∷ requests) g (stopped (Err f) ∷ cs) (stopped (Err h) ∷ ds) p q =
-      let same = stops_once g (Err f) (Err h) p.runs.0 q.runs.0 p.runs.1 q.runs.1 in
-      let more = follow_once requests g cs ds (after_stopped g a requests f cs p) (after_stopped g a requests h ds q) in
-      cc
-  follow_once (a ∷ requests) g (stopped (Ok u) ∷ cs) (stopped (Err h) ∷ ds) p q =
-      let same = stops_once g (Ok u) (Err h) p.runs.0 q.runs.0 p.runs.1 q.runs.1 in
-      let z : ◌≡◌ {A = ℕ} 0 1 = cc in absurd (omega arith)
-  follow_once (a ∷ requests) g (stopped (Err f) ∷ cs) (stopped (Ok v) ∷ ds) p q =
-      let same = stops_once g (Err f) (Ok v) p.runs.0 q.runs.0 p.runs.1 q.runs.1 in
-      let z : ◌≡◌ {A = ℕ} 0 1 = cc in absurd (omega arith)
+      let q' = rw same_block at q in
+      let same = says_brought_one x y (p.answers ∙ sym q'.answers) in
+      (cc, λ _. p.leaves ∙ ap (after_take R g b) same ∙ sym q'.leaves)
+  once g (stopped x) (stopped y) g' g'' _ e p q =
+      (ap stopped (says_one x y (p.answers ∙ sym q.answers)), λ _. p.leaves ∙ sym q.leaves)
+  once g (took _ _) (stopped _) g' g'' _ e p q = absurd cc
+  once g (stopped _) (took _ _) g' g'' _ e p q = absurd cc
 
   pub every_list_reads : EveryListReads R
-  every_list_reads requests =
-      let f = follow requests started in (
-        (f.0, record { runs = f.1.runs; in_order = f.1.in_order; to_the_end = f.1.to_the_end }),
-        λ one other p q.
-            follow_once requests started one other
-            (record { runs = p.runs; in_order = p.in_order; to_the_end = p.to_the_end })
-            (record { runs = q.runs; in_order = q.in_order; to_the_end = q.to_the_end }),
-      )
+  every_list_reads =
+      exactly_one (ReplyMeets R) stopping request (λ _. Unit {0}) answer_request (λ g c g' _ _ _. tt) once started tt

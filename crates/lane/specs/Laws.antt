@@ -3,11 +3,11 @@ use Rattle.std.specs.Prelude.{◌≡◌, ℕ, List, [], ◌∷◌, ◌++◌, map
 use Rattle.std.specs.List.{AllByRecursion}
 use Rattle.schedule.specs.Ranges.{Ranges}
 use Rattle.writer.specs.Stream.{Valid, stream}
-use Rattle.writer.specs.Runs.{Call, Recorded, accepted, wrote}
+use Rattle.writer.specs.Runs.{ExactlyOne, Call, Recorded, accepted, wrote}
 use Rattle.writer.specs.Laws.{WritesStreams, DistinctBeginnings}
 use Rattle.writer.specs.Lists.{EveryListRecords, ValidIsAccepted}
 use Rattle.reader.specs.Reading.{started}
-use Rattle.lane.specs.Reads.{Reply, Request, request, Reads, StoppedAtLast, Accepted, taken, handed, Replies}
+use Rattle.lane.specs.Reads.{Reply, request, Reads, StoppedAtLast, Accepted, taken, handed, Replies}
 use Rattle.lane.specs.Reads.Request.{take_it, stop_it}
 
 -- Lists, one behind another.
@@ -35,9 +35,7 @@ ReadsOnlyStreams R = (replies : List Reply) → Reads R started replies → Stop
 
 -- Every list of takes and stops has exactly one run.
 abbrev pub EveryListReads : Ranges → Type 0
-EveryListReads R =
-    (requests : List Request) → ((replies : List Reply) × Replies R requests replies)
-    × ((one other : List Reply) → Replies R requests one → Replies R requests other → one ≡ other)
+EveryListReads R = ExactlyOne (Replies R)
 
 pub record StreamsAndRecordingsAgree (R : Ranges) : Type 0 where
   pub writes_streams : WritesStreams R

@@ -1,7 +1,8 @@
 -- Runs of calls on a reader, and what they come to.
-use Rattle.std.specs.Prelude.{◌≡◌, ℕ, true, false, ◌⊎◌, List, [], ◌∷◌, ◌++◌, map, Ok, Err, Result}
+use Rattle.std.specs.Prelude.{ℕ, Bool, true, false, List, [], ◌∷◌, ◌++◌, Ok, Err, Result}
 use Rattle.schedule.specs.declared.fault.Fault.{Fault}
 use Rattle.schedule.specs.Ranges.{Ranges}
+use Rattle.writer.specs.Runs.{Runs, EndedAtLast, Follows}
 use Rattle.reader.specs.declared.reading.Brought.{Brought}
 use Rattle.reader.specs.declared.reading.Reading.{Reading}
 use Rattle.reader.specs.Reading.{brought, started}
@@ -21,18 +22,22 @@ abbrev pub request : Reply → Request
 request (took b answer) = take_it b
 request (stopped answer) = stop_it
 
--- Each call meets its promise on what the earlier ones have made of the reader; an accepted stop is the last.
+-- Its promise, on reader g before and g' after.
+abbrev pub ReplyMeets : Ranges → Reading → Reply → Reading → Type 0
+ReplyMeets R g (took b answer) g' = Takes R g b answer g'
+ReplyMeets R g (stopped answer) g' = Stops g answer g'
+
+-- An accepted stop.
+abbrev pub stopping : Reply → Bool
+stopping (stopped (Ok _)) = true
+stopping _ = false
+
+-- Runs on the reader g.
 abbrev pub Reads : Ranges → Reading → List Reply → Type 0
-Reads R g [] = Unit {0}
-Reads R g (took b answer ∷ replies) = (g' : Reading) × Takes R g b answer g' × Reads R g' replies
-Reads R g (stopped (Err f) ∷ replies) = (g' : Reading) × Stops g (Err f) g' × Reads R g' replies
-Reads R g (stopped (Ok u) ∷ replies) = (g' : Reading) × Stops g (Ok u) g' × (replies ≡ [])
+Reads R = Runs (ReplyMeets R) stopping
 
 abbrev pub StoppedAtLast : List Reply → Type 0
-StoppedAtLast [] = ⊥
-StoppedAtLast (took _ _ ∷ replies) = StoppedAtLast replies
-StoppedAtLast (stopped (Err _) ∷ replies) = StoppedAtLast replies
-StoppedAtLast (stopped (Ok _) ∷ replies) = Unit {0}
+StoppedAtLast = EndedAtLast stopping
 
 abbrev pub Accepted : Reply → Type 0
 Accepted (took _ (Ok _)) = Unit {0}
@@ -59,9 +64,6 @@ handed since (took _ (Ok x) ∷ replies) =
     ]
 handed since (stopped _ ∷ replies) = handed since replies
 
--- A run on a new reader that answers a beginning of the list in order, and either ends with the accepted stop or answers
--- the whole list.
-pub record Replies (R : Ranges) (requests : List Request) (replies : List Reply) : Type 0 where
-  pub runs : Reads R started replies
-  pub in_order : (rest : List Request) × (requests ≡ map request replies ++ rest)
-  pub to_the_end : StoppedAtLast replies ⊎ (map request replies ≡ requests)
+-- A run on a new reader that answers the list, up to its accepted stop or to the end.
+abbrev pub Replies : Ranges → List Request → List Reply → Type 0
+Replies R = Follows (Reads R started) StoppedAtLast request

@@ -82,15 +82,15 @@ abbrev pub LowBelow : Ranges → ℕ → Option ℕ → Type 0
 LowBelow R j None = Unit {0}
 LowBelow R j (Some low) = (low < R.base) × (1 ≤ j + R.lead)
 
-abbrev pub blocks_of : Option ℕ → ℕ
-blocks_of None = 0
-blocks_of (Some low) = 1
+abbrev pub blocks_taken : Option ℕ → ℕ
+blocks_taken None = 0
+blocks_taken (Some low) = 1
 
 pub record InRange (R : Ranges) (g : Reading) : Type 0 where
   pub step_high : g.step ≤ R.steps
   pub before_below : BeforeBelow R g.step g.before
   pub low_below : LowBelow R g.step g.low
-  pub counted : g.count ≡ 2 * g.step + R.lead - 1 + blocks_of g.low
+  pub counted : g.count ≡ 2 * g.step + R.lead - 1 + blocks_taken g.low
 
 -- Sizes that hold in every state, whatever the schedule, so that no sum overflows.
 abbrev pub low_of : Option ℕ → ℕ
@@ -99,4 +99,4 @@ low_of (Some low) = low
 
 abbrev pub Small : Reading → Type 0
 Small g =
-    (g.step ≤ 65535) × (g.before ≤ 16777217) × (low_of g.low ≤ 16777216) × (g.count ≤ 2 * g.step + 1 + blocks_of g.low)
+    (g.step ≤ 65535) × (g.before ≤ 16777217) × (low_of g.low ≤ 16777216) × (g.count ≤ 2 * g.step + 1 + blocks_taken g.low)

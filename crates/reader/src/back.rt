@@ -8,7 +8,7 @@ ghost use Rattle.reader.specs.Back.{limit, carrier_rows, pair_rows};
 use schedule::fault::{Fault, FirstPassFault, SecondPassFault};
 use schedule::interface::Schedule;
 
-// The limit of the carrier of group j: 0 where there is no such group.
+// The limit of the carrier of group j: 0 where there is no such group, as a schedule answers it.
 fn limit<S: Schedule>(schedule: &S, j: u64) -> u64
     ensures { result ≡ limit (S.ranges schedule.now) j }
 {

@@ -29,7 +29,7 @@ impl<S: Schedule> Reader<S> {
     {
         Reader {
             schedule,
-            reading: Reading::START,
+            reading: Reading::default(),
         }
     }
 
@@ -42,6 +42,7 @@ impl<S: Schedule> Reader<S> {
         let base = self.schedule.base();
         let lead = self.schedule.lead();
         let place = self.reading.count;
+        // The reader's state and the block are matched together: what a block brings goes by both.
         match (self.reading, block) {
             (_, block) if block >= base => {
                 Err(Fault::SecondPass(SecondPassFault::TakenTooLarge(place)))
@@ -58,8 +59,8 @@ impl<S: Schedule> Reader<S> {
                 self.reading.low = Some(low);
                 Ok(Brought::Nothing)
             }
-            (Reading { low: None, .. }, only) => self.go_on(only),
-            (Reading { low: Some(low), .. }, high) => self.go_on(high * base + low),
+            (Reading { low: None, .. }, only) => self.take_group(only),
+            (Reading { low: Some(low), .. }, high) => self.take_group(high * base + low),
         }
     }
 
@@ -81,7 +82,7 @@ impl<S: Schedule> Reader<S> {
     }
 
     // The group is complete, and w is its number.
-    fn go_on(&mut self, w: u64) -> Result<Brought, Fault>
+    fn take_group(&mut self, w: u64) -> Result<Brought, Fault>
         ensures schedule { self.new.schedule ≡ self.old.schedule }
         ensures answers { let R = S.ranges self.old.schedule in let g = self.old.reading in says_brought result ≡ judged (whole_rows R g (Some w)) (whole_brings R g (Some w)) }
         ensures leaves { let R = S.ranges self.old.schedule in let g = self.old.reading in MatchResult result (λ x. self.new.reading ≡ after_group R g w (brought x).1) (λ _. self.new.reading ≡ g) }
@@ -91,7 +92,7 @@ impl<S: Schedule> Reader<S> {
         let what = self.known(spill)?;
         self.check_closing(carrier, what.ends())?;
         self.reading = if what.ends() {
-            Reading::START
+            Reading::default()
         } else {
             Reading {
                 count: count + 1,

@@ -1,9 +1,9 @@
 ghost use Rattle.std.specs.Prelude.{◌≡◌, Some};
-ghost use Rattle.reader.specs.Reading.{brought, printed, started};
+ghost use Rattle.reader.specs.Reading.{brought, printed};
 
 use std::fmt;
 
-// What a block brings.
+// What a block brings: one of five things, of which nothing is one.
 #[derive(Clone, Copy, Debug, PartialEq, Eq)]
 pub enum Brought {
     Nothing,
@@ -38,21 +38,12 @@ impl fmt::Display for Brought {
 }
 
 // What a reader holds: the count of blocks accepted since it was new or since its last end, and the group that comes
-// next: its step, the carrier of the group before, and its first block, where that was taken.
-#[derive(Clone, Copy, Debug, PartialEq, Eq)]
+// next: its step, the carrier of the group before, and its first block, where that was taken. Before the first group the
+// carrier is 0, a number that nothing reads: the step says so already.
+#[derive(Clone, Copy, Debug, Default, PartialEq, Eq)]
 pub struct Reading {
     pub(crate) count: u64,
     pub(crate) step: u64,
     pub(crate) before: u64,
     pub(crate) low: Option<u64>,
-}
-
-impl Reading {
-    // Before the first block of a stream.
-    pub(crate) const START: Reading = Reading {
-        count: 0,
-        step: 0,
-        before: 0,
-        low: None,
-    };
 }

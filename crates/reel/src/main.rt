@@ -20,17 +20,14 @@ struct Lane<S: Schedule> {
     reader: Reader<S>,
 }
 
-// The lane that is open, of either kind.
+// The lane that is open, of either kind. There are two kinds, so an enum: a `dyn` would need a trait of the lane's calls.
 #[derive(Drop)]
 enum Open {
     Sole(Lane<Sole>),
     Lose(Lane<Lose>),
 }
 
-fn unknown(rt: &HostRuntime) -> io::Result<()> {
-    println!(rt; "?")
-}
-
+// The runtime is passed to each call, as a handle is.
 impl<S: Schedule + Copy> Lane<S> {
     fn open(schedule: S) -> Lane<S> {
         let (recording, reader) = open_lane(schedule);
@@ -92,63 +89,66 @@ impl<S: Schedule + Copy> Lane<S> {
             ('C', []) => self.close(rt),
             ('T', blocks) => self.take(rt, blocks),
             ('E', []) => self.stop(rt),
-            _ => unknown(rt),
+            _ => println!(rt; "?"),
         }
     }
 }
 
-// Opens a lane on a schedule that was made; where its width is refused, what was open stays open.
-fn make<S: Schedule + Copy, F: FnOnce(S) -> Open>(
-    rt: &HostRuntime,
-    open: &mut Option<Open>,
-    letter: char,
-    width: u64,
-    made: Result<S, Fault>,
-    to_open: F,
-) -> io::Result<()>
-    requires { F.IsAlwaysCallable to_open }
-{
-    match made {
-        Ok(schedule) => {
-            let n = longest_recording(&schedule);
-            *open = Some(to_open(schedule));
-            println!(rt; "{letter} {width} {n}")
+// A run of the program: what it prints with, and the lane that is open.
+#[derive(Drop)]
+struct Session<'a> {
+    rt: &'a HostRuntime,
+    open: Option<Open>,
+}
+
+impl Session<'_> {
+    fn unknown(&self) -> io::Result<()> {
+        println!(self.rt; "?")
+    }
+
+    // Opens a lane on a schedule that was made; where its width is refused, what was open stays open. The closure takes the
+    // schedule, since a bound that names `Lane<S>` cannot be stated.
+    fn make<S: Schedule + Copy, F: FnOnce(S) -> Open>(
+        &mut self,
+        letter: char,
+        width: u64,
+        made: Result<S, Fault>,
+        to_open: F,
+    ) -> io::Result<()>
+        requires { F.IsAlwaysCallable to_open }
+    {
+        match made {
+            Ok(schedule) => {
+                let n = longest_recording(&schedule);
+                self.open = Some(to_open(schedule));
+                println!(self.rt; "{letter} {width} {n}")
+            }
+            Err(fault) => println!(self.rt; "{letter} {fault}"),
         }
-        Err(fault) => println!(rt; "{letter} {fault}"),
     }
-}
 
-// A match on the letter shows how many numbers each takes, which a table of closures would hide.
-fn act(rt: &HostRuntime, open: &mut Option<Open>, letter: char, numbers: &[u64]) -> io::Result<()> {
-    match (letter, numbers) {
-        ('S', [width]) => make(
-            rt,
-            open,
-            letter,
-            *width,
-            Sole::new(*width),
-            |schedule| Open::Sole(Lane::open(schedule)),
-        ),
-        ('L', [width]) => make(
-            rt,
-            open,
-            letter,
-            *width,
-            Lose::new(*width),
-            |schedule| Open::Lose(Lane::open(schedule)),
-        ),
-        _ => match open {
-            Some(Open::Sole(lane)) => lane.act(rt, letter, numbers),
-            Some(Open::Lose(lane)) => lane.act(rt, letter, numbers),
-            None => unknown(rt),
-        },
+    // A match on the letter shows how many numbers each takes, which a table of closures would hide.
+    fn act(&mut self, letter: char, numbers: &[u64]) -> io::Result<()> {
+        match (letter, numbers) {
+            ('S', [width]) => self.make(letter, *width, Sole::new(*width), |schedule| {
+                Open::Sole(Lane::open(schedule))
+            }),
+            ('L', [width]) => self.make(letter, *width, Lose::new(*width), |schedule| {
+                Open::Lose(Lane::open(schedule))
+            }),
+            _ => match &mut self.open {
+                Some(Open::Sole(lane)) => lane.act(self.rt, letter, numbers),
+                Some(Open::Lose(lane)) => lane.act(self.rt, letter, numbers),
+                None => self.unknown(),
+            },
+        }
     }
-}
 
-fn read_line(rt: &HostRuntime, open: &mut Option<Open>, text: &[u8]) -> io::Result<()> {
-    match command::parse(rt.alloc(), text)? {
-        Some(line) => act(rt, open, line.letter, &line.numbers),
-        None => unknown(rt),
+    fn read_line(&mut self, text: &[u8]) -> io::Result<()> {
+        match command::parse(self.rt.alloc(), text)? {
+            Some(line) => self.act(line.letter, &line.numbers),
+            None => self.unknown(),
+        }
     }
 }
 
@@ -157,12 +157,15 @@ fn main(rt: HostRuntime) -> io::Result<()> {
     let mut input = Vec::new(rt.alloc());
     let _ = rt.stdin().take(limit as u64 + 1).read_to_end(&mut input)?;
     let lines = Lines::new(&input);
-    let cut = lines.cut();
-    let mut open = None;
+    let cut = lines.cut;
+    let mut session = Session {
+        rt: &rt,
+        open: None,
+    };
     for line in lines {
         match line {
-            Ok(text) => read_line(&rt, &mut open, text)?,
-            Err(CutOff) => unknown(&rt)?,
+            Ok(text) => session.read_line(text)?,
+            Err(CutOff) => session.unknown()?,
         }
     }
     if cut {

@@ -1,5 +1,5 @@
 -- Rows that are tried in order.
-use Rattle.std.proofs.Common.{◌≡◌, ℕ, Bool, true, false, List, [], ◌∷◌, ◌++◌, Ok, Err, Result, sym, refl, ap, ◌∙◌, arith}
+use Rattle.std.proofs.Common.{◌≡◌, ℕ, Bool, true, false, List, [], ◌∷◌, ◌++◌, Ok, Err, Result, sym, refl, ap, ◌∙◌}
 use Rattle.schedule.specs.Faults.{judged}
 
 -- No row holds.
@@ -15,7 +15,7 @@ judged_clear {X} (row ∷ rows) x y e = go row.2 refl (judged_clear rows x y) e
     go : (c : Bool) → row.2 ≡ c → (Ok y ≡ judged rows x → Clear rows × (y ≡ x)) →
         ◌≡◌ {A = Result X (ℕ × ℕ)} (Ok y) (elim c [ true ↦ Err (row.0, row.1) | false ↦ judged rows x ]) →
         ((row.2 ≡ false) × Clear rows) × (y ≡ x)
-    go true e more f = let z : ◌≡◌ {A = ℕ} 0 1 = cc in absurd (omega arith)
+    go true e more f = absurd cc
     go false e more f = ((e, (more f).0), (more f).1)
 
 pub clear_judged : {X : Type 0} (rows : List (ℕ × ℕ × Bool)) (x : X) → Clear rows → judged rows x ≡ Ok x
@@ -30,19 +30,3 @@ judged_as rows x y a b e f = ap Ok f ∙ sym (clear_judged rows a (judged_clear 
 pub clear_then : {X : Type 0} (rows more : List (ℕ × ℕ × Bool)) (x : X) → Clear rows → judged (rows ++ more) x ≡ judged more x
 clear_then [] more x c = refl
 clear_then (row ∷ rows) more x c = rw c.0 (clear_then rows more x c.1)
-
-pub judged_then : {X Y : Type 0} (rows more : List (ℕ × ℕ × Bool)) (x : X) (y y' : Y) → Ok y' ≡ judged rows y →
-    judged (rows ++ more) x ≡ judged more x
-judged_then rows more x y y' e = clear_then rows more x (judged_clear rows y y' e).0
-
--- A row that holds is the answer, whatever stands behind it.
-pub judged_stops : {X Y : Type 0} (rows more : List (ℕ × ℕ × Bool)) (x : X) (y : Y) (e : ℕ × ℕ) → Err e ≡ judged rows y →
-    judged (rows ++ more) x ≡ Err e
-judged_stops [] more x y e f = let z : ◌≡◌ {A = ℕ} 0 1 = cc in absurd (omega arith)
-judged_stops {X} {Y} (row ∷ rows) more x y e f = go row.2 (judged_stops rows more x y e) f
-  where
-    go : (c : Bool) → (Err e ≡ judged rows y → judged (rows ++ more) x ≡ Err e) →
-        ◌≡◌ {A = Result Y (ℕ × ℕ)} (Err e) (elim c [ true ↦ Err (row.0, row.1) | false ↦ judged rows y ]) →
-        ◌≡◌ {A = Result X (ℕ × ℕ)} (elim c [ true ↦ Err (row.0, row.1) | false ↦ judged (rows ++ more) x ]) (Err e)
-    go true later g = let same : ◌≡◌ {A = ℕ × ℕ} e (row.0, row.1) = cc in ap Err (sym same)
-    go false later g = later g

@@ -1,3 +1,4 @@
 pub mod Sizes
 pub mod Judged
 pub mod Table
+pub mod Each

@@ -11,13 +11,6 @@ by_lead P R law zero_lead one_lead =
       | inr h ↦ let e : R.lead ≡ 1 = omega (arith, law.lead_high) in subst P (sym e) (one_lead e)
     ]
 
-pub carrier_size : (R : Ranges) → Lawful R → (j : ℕ) → R.carrier j ≤ 16777217
-carrier_size R law j =
-    elim (cases_lt j R.steps) [
-      | inl h ↦ omega (arith, law.carrier_high j h, law.base_high)
-      | inr h ↦ omega (arith, law.no_carrier j h)
-    ]
-
 -- Every spill range up to the last step is there.
 pub spill_there : (R : Ranges) → Lawful R → (j : ℕ) → j ≤ R.steps → (1 ≤ R.spill j) × (R.spill j ≤ 2 * R.base)
 spill_there R law zero h =
@@ -25,10 +18,3 @@ spill_there R law zero h =
     (λ e. (omega (arith, law.first_spill_alone e), omega (arith, law.first_spill_alone e, law.base_low)))
     (λ e. (omega (arith, law.first_spill_lead e), omega (arith, law.first_spill_lead e, law.base_low)))
 spill_there R law (suc j) h = (law.spill_low (suc j) (omega arith) h, law.spill_high (suc j) (omega arith) h)
-
-pub spill_size : (R : Ranges) → Lawful R → (j : ℕ) → R.spill j ≤ 33554432
-spill_size R law j =
-    elim (cases_lt R.steps j) [
-      | inl h ↦ omega (arith, law.no_spill j h)
-      | inr h ↦ omega (arith, (spill_there R law j h).1, law.base_high)
-    ]

@@ -1,5 +1,5 @@
 -- The refusal table, from a number and a place back to the fault.
-use Rattle.std.proofs.Common.{◌≡◌, ℕ, Bool, true, false, cond, eqb, List, [], ◌∷◌, Ok, Err, Result, sym, refl, ap, ◌∙◌, arith}
+use Rattle.std.proofs.Common.{◌≡◌, ℕ, Bool, true, false, cond, eqb, List, [], ◌∷◌, Ok, Err, Result, sym, refl, ap, ◌∙◌}
 use Rattle.schedule.specs.declared.fault.Fault.{Fault}
 use Rattle.schedule.specs.declared.fault.Fault.TheVariants.{Schedule, Piece, SecondPass, FirstPass, Closing, Lookup}
 use Rattle.schedule.specs.declared.fault.ScheduleFault.TheVariants.{WidthUnknown}
@@ -46,8 +46,8 @@ fault_back (Piece (PackingTooShort p)) = refl
 -- Answers that say the same are the same.
 pub says_one : {X : Type 0} (a b : Result X Fault) → says a ≡ says b → a ≡ b
 says_one (Ok x) (Ok y) e = cc
-says_one (Ok x) (Err f) e = let z : ◌≡◌ {A = ℕ} 0 1 = cc in absurd (omega arith)
-says_one (Err f) (Ok y) e = let z : ◌≡◌ {A = ℕ} 0 1 = cc in absurd (omega arith)
+says_one (Ok x) (Err f) e = absurd cc
+says_one (Err f) (Ok y) e = absurd cc
 says_one (Err f) (Err g) e =
     let same : number_place f ≡ number_place g = cc in
     ap Err (sym (fault_back f) ∙ ap fault_of same ∙ fault_back g)

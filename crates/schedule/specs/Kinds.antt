@@ -34,7 +34,7 @@ abbrev pub lose : ℕ → Ranges
 lose width = fourfold (2 ^ width) 1 (lose_steps width)
 
 -- The ranges of LOSE where a symbol leads, and of SOLE where none does.
-abbrev pub kind : (led : Bool) → ℕ → Ranges
+abbrev pub kind : (leads : Bool) → ℕ → Ranges
 kind false width = sole width
 kind true width = lose width
 

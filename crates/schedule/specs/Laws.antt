@@ -89,12 +89,12 @@ lose_lawful w h =
     (fourfold_lawful 65536 1 90 (lit≤ tt) (lit≤ tt) (lit≤ tt) (lit≤ tt) (lit≤ tt) (lit≤ tt) (lit≤ tt))
     (fourfold_lawful 16777216 1 1448 (lit≤ tt) (lit≤ tt) (lit≤ tt) (lit≤ tt) (lit≤ tt) (lit≤ tt) (lit≤ tt))
 
-bits_known : (w : Width) → known (bits_of w) ≡ true
+pub bits_known : (w : Width) → known (bits_of w) ≡ true
 bits_known Five = refl
 bits_known Eight = refl
 bits_known Sixteen = refl
 bits_known TwentyFour = refl
 
-pub kind_lawful : (led : Bool) (w : Width) → Lawful (kind led (bits_of w))
+pub kind_lawful : (leads : Bool) (w : Width) → Lawful (kind leads (bits_of w))
 kind_lawful false w = sole_lawful (bits_of w) (bits_known w)
 kind_lawful true w = lose_lawful (bits_of w) (bits_known w)

@@ -9,9 +9,9 @@ use crate::fault::Fault;
 use crate::interface::Schedule;
 use crate::width::Width;
 
-// C(j) = B − u and Y(j) = B + u, where u is 4j + lead, and Y(0) = 1 where that is 0. The lead is 1 where LED holds.
+// C(j) = B − u and Y(j) = B + u, where u is 4j + lead, and Y(0) = 1 where that is 0. A symbol leads where LEADS holds.
 #[derive(Clone, Copy, Debug, PartialEq, Eq)]
-pub struct Fourfold<const LED: bool> {
+pub struct Fourfold<const LEADS: bool> {
     width: Width,
 }
 
@@ -21,10 +21,10 @@ pub type Sole = Fourfold<false>;
 // Lead 1.
 pub type Lose = Fourfold<true>;
 
-impl<const LED: bool> Fourfold<LED> {
+impl<const LEADS: bool> Fourfold<LEADS> {
     // The schedule at width 5, 8, 16 or 24; any other number may be asked for, and is refused with 1.
-    pub fn new(width: u64) -> Result<Fourfold<LED>, Fault>
-        ensures { MatchResult result (λ s. (known width ≡ true) × (⟦<Fourfold<LED> as Schedule>⟧.ranges s ≡ kind LED width) × NoFurtherStep (kind LED width)) (λ f. (known width ≡ false) × (number_place f ≡ (1, 0))) }
+    pub fn new(width: u64) -> Result<Fourfold<LEADS>, Fault>
+        ensures { MatchResult result (λ s. (known width ≡ true) × (⟦<Fourfold<LEADS> as Schedule>⟧.ranges s ≡ kind LEADS width) × NoFurtherStep (kind LEADS width)) (λ f. (known width ≡ false) × (number_place f ≡ (1, 0))) }
     {
         Ok(Fourfold {
             width: Width::try_from(width)?,
@@ -32,21 +32,21 @@ impl<const LED: bool> Fourfold<LED> {
     }
 }
 
-impl<const LED: bool> Schedule for Fourfold<LED> {
-    ghost ranges = { λ s. kind LED (bits_of s.width) };
+impl<const LEADS: bool> Schedule for Fourfold<LEADS> {
+    ghost ranges = { λ s. kind LEADS (bits_of s.width) };
 
-    ghost lawful = { λ s. kind_lawful LED s.width };
+    ghost lawful = { λ s. kind_lawful LEADS s.width };
 
     fn base(&self) -> u64 {
         self.width.base()
     }
 
     fn lead(&self) -> u64 {
-        u64::from(LED)
+        u64::from(LEADS)
     }
 
     fn steps(&self) -> u64 {
-        match (self.width, LED) {
+        match (self.width, LEADS) {
             (Width::Five, _) => 2,
             (Width::Eight, false) => 6,
             (Width::Eight, true) => 5,
@@ -65,7 +65,7 @@ impl<const LED: bool> Schedule for Fourfold<LED> {
     }
 
     fn spill(&self, j: u64) -> u64 {
-        if j == 0 && !LED {
+        if j == 0 && !LEADS {
             1
         } else if j <= self.steps() {
             self.base() + (4 * j + self.lead())

@@ -1,7 +1,7 @@
 ghost use Rattle.std.specs.Prelude.{◌≡◌};
 ghost use Rattle.schedule.specs.Ranges.{Ranges, Lawful, alphabet, end_mark, longest};
 
-// A schedule is the numbers that it answers; `ranges` names them. Asking alters nothing.
+// A schedule is the numbers that it answers, 0 where it has no such range; `ranges` names them. Asking alters nothing.
 pub trait Schedule {
     ghost ranges: { Self → Ranges };
 

@@ -10,3 +10,4 @@ pub mod Unique
 pub mod Recorded
 pub mod Pushing
 pub mod Running
+pub mod Runs

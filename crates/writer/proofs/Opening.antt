@@ -3,7 +3,7 @@ use Rattle.std.proofs.Common.{◌≡◌, ℕ, suc, ◌+◌, ◌-◌, ◌/◌, �
 use lib.Seq.{drop-nil}
 use Rattle.std.specs.List.{AllByRecursion}
 use Rattle.std.proofs.lemmas.List.{length-append, length-drop}
-use Rattle.std.proofs.ByRecursion.{All-append, All-drop, All-weaker}
+use Rattle.schedule.proofs.Each.{each_append, each_drop, each_weaker}
 use Rattle.schedule.specs.Ranges.{Ranges, Lawful, alphabet, longest}
 use Rattle.schedule.proofs.Sizes.{by_lead}
 use Rattle.writer.specs.Stream.{Valid, first_spill, first_pass, groups, complete}
@@ -38,7 +38,7 @@ module _ (R : Ranges) (law : Lawful R) where
   unpaired_below (s ∷ t ∷ ss) b = unpaired_below ss b.1.1
 
   pub blocks_are_symbols : (blocks : List ℕ) → AllByRecursion (λ x. x < R.base) blocks → Symbols blocks
-  blocks_are_symbols = All-weaker (λ x. x < R.base) (λ s. s < alphabet R) (λ x h. omega arith)
+  blocks_are_symbols = each_weaker (λ x. x < R.base) (λ s. s < alphabet R) (λ x h. omega arith)
 
   pub open_from : (blocks : List ℕ) (h : Held) → Valid R blocks → Holds R blocks h → Open R blocks h
   open_from blocks h valid holds =
@@ -50,13 +50,13 @@ module _ (R : Ranges) (law : Lawful R) where
         spill_below =
             rw holds.spill
             (last_spill_below 0 (first_spill R.lead blocks) ((length blocks - R.lead) / 2) d
-            (All-drop (λ s. s < alphabet R) R.lead blocks ss)
+            (each_drop (λ s. s < alphabet R) R.lead blocks ss)
             (first_below blocks ss)
             (omega (arith, length-drop R.lead blocks))
             (omega arith));
         waiting_below =
             rw holds.waiting
-            (unpaired_below d (All-drop (λ x. x < R.base) R.lead blocks valid.below));
+            (unpaired_below d (each_drop (λ x. x < R.base) R.lead blocks valid.below));
       }
 
   -- No symbols: no group is written, and nothing has gone over.
@@ -74,4 +74,4 @@ module _ (R : Ranges) (law : Lawful R) where
   pub valid_append : (blocks piece : List ℕ) → Valid R blocks → AllByRecursion (λ x. x < R.base) piece → length blocks + length piece ≤ longest R →
       Valid R (blocks ++ piece)
   valid_append blocks piece valid below few =
-      record { below = All-append (λ x. x < R.base) blocks piece valid.below below; few = omega (arith, length-append blocks piece) }
+      record { below = each_append (λ x. x < R.base) blocks piece valid.below below; few = omega (arith, length-append blocks piece) }

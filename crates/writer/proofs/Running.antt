@@ -1,5 +1,5 @@
 -- Every list of calls has one run, and what a new recording accepts is what is valid.
-use Rattle.std.proofs.Common.{◌≡◌, ℕ, ◌≤◌, ◌⊎◌, List, [], ◌∷◌, ◌++◌, map, length, take, drop, replicate, Ok, Err, Result, sym, refl, ap, ◌∙◌, inl, inr, ⊎_elim, append-nil, arith}
+use Rattle.std.proofs.Common.{◌≡◌, ℕ, ◌≤◌, false, List, [], ◌∷◌, ◌++◌, length, take, drop, replicate, Ok, Err, Result, sym, refl, ap, ◌∙◌, append-nil, arith}
 use Rattle.std.proofs.lemmas.List.{length-append, length-drop, length-replicate, take_at, drop_at, take-append-drop, append_cancel_left}
 use Rattle.std.proofs.lemmas.Bool.{le-ltb}
 use Rattle.std.proofs.lemmas.Bool.Decides.{nat_tests}
@@ -14,7 +14,7 @@ use Rattle.writer.specs.declared.held.Held.{Held}
 use Rattle.writer.specs.Stream.{complete}
 use Rattle.writer.specs.Holding.{Holds, Open, opened}
 use Rattle.writer.specs.Calls.{offer_writes, close_writes, offer_rows, close_rows, Written, AfterOffer, AfterClose, Offers, Closes}
-use Rattle.writer.specs.Runs.{Call, Records, ClosedAtLast}
+use Rattle.writer.specs.Runs.{Call, CallMeets, closing}
 use Rattle.writer.specs.Runs.Call.{offer, close}
 use Rattle.writer.specs.Lists.{Ask, asked, EveryListRecords, ValidIsAccepted}
 use Rattle.writer.specs.Lists.Ask.{ask_offer, ask_close}
@@ -22,6 +22,7 @@ use Rattle.writer.proofs.Fronts.{front_all}
 use Rattle.writer.proofs.Rows.{Fine, fine}
 use Rattle.writer.proofs.Opening.{open_from, opened_open, valid_append}
 use Rattle.writer.proofs.Recorded.{writes_streams}
+use Rattle.writer.proofs.Runs.{exactly_one}
 use Rattle.writer.proofs.Pushing.{push_all, pushed_length, end, ended_length}
 
 -- A buffer with these blocks put at its front.
@@ -62,37 +63,25 @@ module _ (R : Ranges) (law : Lawful R) where
     (le-ltb _ _ (omega (arith, front_all R.base piece f.below)), (le-ltb _ _ f.room_for, tt)),
   )
 
-  -- An offer that is accepted, and what it leaves.
-  record Accepted (h : Held) (xs piece buffer : List ℕ) (n : ℕ) : Type 0 where
-    then : Held
-    after : List ℕ
-    offers : Offers R h piece buffer (Ok n) then after
-    still_open : Open R (xs ++ piece) then
-
+  -- An offer that is accepted.
   accept : (h : Held) (xs piece buffer : List ℕ) (n : ℕ) → Open R xs h → Fine R h.count piece (length buffer) →
-      n ≡ offer_writes R h.count (length piece) → Accepted h xs piece buffer n
+      n ≡ offer_writes R h.count (length piece) → (h' : Held) × (after : List ℕ) × Offers R h piece buffer (Ok n) h' after
   accept h xs piece buffer n o f e =
       let p = push_all R law h piece in
-      let long : length p.written ≡ n = pushed_length R law h piece p xs o.holds ∙ sym e in
-      let opens : (ss : List ℕ) → Open R ss h → Open R (ss ++ piece) p.after = λ ss q.
-      open_from R law (ss ++ piece) p.after
-      (valid_append R law ss piece q.valid f.below (omega arith))
-      (p.grows ss q.holds).holds in
-      record {
-        then = p.after;
-        after = p.written ++ drop n buffer;
-        offers = record {
+      let long : length p.written ≡ n = pushed_length R law h piece p xs o.holds ∙ sym e in (
+        p.after,
+        p.written ++ drop n buffer,
+        record {
           answers = ap Ok e ∙ sym (clear_judged (offer_rows R h.count piece (length buffer)) _ (offer_clear h.count piece (length buffer) f));
           leaves = (
             put_front p.written buffer n long (omega arith),
             λ ss q. (
-              opens ss q,
+              open_from R law (ss ++ piece) p.after (valid_append R law ss piece q.valid f.below (omega arith)) (p.grows ss q.holds).holds,
               cc ((p.grows ss q.holds).writes, take_at p.written (drop n buffer) n long),
             ),
           );
-        };
-        still_open = opens xs o;
-      }
+        },
+      )
 
   -- A close that is accepted.
   end_with : (h : Held) (xs buffer : List ℕ) (n : ℕ) → Open R xs h → n ≤ length buffer → n ≡ close_writes R h.count →
@@ -110,226 +99,94 @@ module _ (R : Ranges) (law : Lawful R) where
         },
       )
 
-  -- An offer's answer, and the recording after it, which is open.
-  record Offered (h : Held) (piece buffer : List ℕ) : Type 0 where
-    answer : Result ℕ Fault
-    then : Held
-    after : List ℕ
-    offers : Offers R h piece buffer answer then after
-    blocks : List ℕ
-    still_open : Open R blocks then
+  abbrev IsOpen : Held → Type 0
+  IsOpen h = (xs : List ℕ) × Open R xs h
 
-  answer_offer : (h : Held) (xs piece buffer : List ℕ) → Open R xs h → Offered h piece buffer
-  answer_offer h xs piece buffer o =
+  -- Every offer and every close of an open recording has an answer.
+  answer_ask : (h : Held) (a : Ask) → IsOpen h → (c : Call) × (h' : Held) × (asked c ≡ a) × CallMeets R h c h'
+  answer_ask h (ask_offer piece buffer) o =
       let rows = offer_rows R h.count piece (length buffer) in
-      let n = offer_writes R h.count (length piece) in
-      let a = heard rows n (offer_listed h.count piece (length buffer)) in
+      let a = heard rows (offer_writes R h.count (length piece)) (offer_listed h.count piece (length buffer)) in
       go a.0 a.1
     where
-      go : (answer : Result ℕ Fault) →
-          says answer ≡ judged (offer_rows R h.count piece (length buffer)) (offer_writes R h.count (length piece)) → Offered h piece buffer
+      go : (answer : Result ℕ Fault) → says answer ≡ judged (offer_rows R h.count piece (length buffer)) (offer_writes R h.count (length piece)) →
+          (c : Call) × (h' : Held) × (asked c ≡ ask_offer piece buffer) × CallMeets R h c h'
       go (Ok n) e =
           let rows = offer_rows R h.count piece (length buffer) in
           let m = offer_writes R h.count (length piece) in
-          let a = accept h xs piece buffer n o (fine R h.count piece (length buffer) (judged_as rows m n tt tt e refl)) (judged_clear rows m n e).1 in
-          record { answer = Ok n; then = a.then; after = a.after; offers = a.offers; blocks = xs ++ piece; still_open = a.still_open }
-      go (Err f) e =
-          record { answer = Err f; then = h; after = buffer; offers = record { answers = e; leaves = (refl, refl) }; blocks = xs; still_open = o }
-
-  -- A close's answer. Whether refused or not, h stands for what is held after it.
-  answer_close : (h : Held) (xs buffer : List ℕ) → Open R xs h →
-      (answer : Result ℕ Fault) × (after : List ℕ) × Closes R h buffer answer h after
-  answer_close h xs buffer o =
-      let rows = close_rows R h.count (length buffer) in
-      let a = heard rows (close_writes R h.count) (close_listed h.count (length buffer)) in
+          let a = accept h o.0 piece buffer n o.1 (fine R h.count piece (length buffer) (judged_as rows m n tt tt e refl)) (judged_clear rows m n e).1 in
+          (offer piece buffer (Ok n) a.1, a.0, refl, a.2)
+      go (Err f) e = (offer piece buffer (Err f) buffer, h, refl, record { answers = e; leaves = (refl, refl) })
+  answer_ask h (ask_close buffer) o =
+      let a = heard (close_rows R h.count (length buffer)) (close_writes R h.count) (close_listed h.count (length buffer)) in
       go a.0 a.1
     where
       go : (answer : Result ℕ Fault) → says answer ≡ judged (close_rows R h.count (length buffer)) (close_writes R h.count) →
-          (answer : Result ℕ Fault) × (after : List ℕ) × Closes R h buffer answer h after
+          (c : Call) × (h' : Held) × (asked c ≡ ask_close buffer) × CallMeets R h c h'
       go (Ok n) e =
           let c = judged_clear (close_rows R h.count (length buffer)) (close_writes R h.count) n e in
           let t = c.0.0 in
-          let same = c.1 in
           let room : close_writes R h.count ≤ length buffer = grind (arith, nat_tests) in
-          let done = end_with h xs buffer n o (omega arith) same in
-          (Ok n, done.0, done.1)
-      go (Err f) e = (Err f, buffer, record { answers = e; leaves = (refl, refl) })
+          let done = end_with h o.0 buffer n o.1 (omega (arith, c.1)) c.1 in
+          (close buffer (Ok n) done.0, h, refl, done.1)
+      go (Err f) e = (close buffer (Err f) buffer, h, refl, record { answers = e; leaves = (refl, refl) })
 
-  -- A run on a recording that holds h, along a list: as Answers says it of a new one.
-  record Follows (h : Held) (asks : List Ask) (calls : List Call) : Type 0 where
-    runs : Records R h calls
-    in_order : (rest : List Ask) × (asks ≡ map asked calls ++ rest)
-    to_the_end : ClosedAtLast calls ⊎ (map asked calls ≡ asks)
+  -- A recording that is not closed stays open.
+  stays_open : (h : Held) (c : Call) (h' : Held) → IsOpen h → CallMeets R h c h' → closing c ≡ false → IsOpen h'
+  stays_open h (offer piece buffer (Ok n) after) h' o p e = (o.0 ++ piece, (p.leaves.1 o.0 o.1).0)
+  stays_open h (offer piece buffer (Err f) after) h' o p e = (o.0, rw p.leaves.0 o.1)
+  stays_open h (close buffer (Ok n) after) h' o p e = absurd cc
+  stays_open h (close buffer (Err f) after) h' o p e = (o.0, rw p.leaves.0 o.1)
 
-  -- Every list has a run from every open recording.
-  follow : (asks : List Ask) (h : Held) (xs : List ℕ) → Open R xs h → (calls : List Call) × Follows h asks calls
-  follow [] h xs o = ([], record { runs = tt; in_order = ([], refl); to_the_end = inr refl })
-  follow (ask_offer piece buffer ∷ asks) h xs o =
-      let a = answer_offer h xs piece buffer o in
-      let more = follow asks a.then a.blocks a.still_open in (
-        offer piece buffer a.answer a.after ∷ more.0,
-        record {
-          runs = (a.then, a.offers, more.1.runs);
-          in_order = (more.1.in_order.0, cc more.1.in_order.1);
-          to_the_end = ⊎_elim (λ c. inl c) (λ e. inr (cc)) more.1.to_the_end;
-        },
-      )
-  follow (ask_close buffer ∷ asks) h xs o =
-      let a = answer_close h xs buffer o in
-      go a.0 a.1 a.2 (follow asks h xs o)
-    where
-      go : (answer : Result ℕ Fault) (after : List ℕ) → Closes R h buffer answer h after → ((calls : List Call) × Follows h asks calls) →
-          (calls : List Call) × Follows h (ask_close buffer ∷ asks) calls
-      go (Ok n) after c more =
-          (close buffer (Ok n) after ∷ [], record { runs = (h, c, refl); in_order = (asks, refl); to_the_end = inl tt })
-      go (Err f) after c more = (
-        close buffer (Err f) after ∷ more.0,
-        record {
-          runs = (h, c, more.1.runs);
-          in_order = (more.1.in_order.0, cc more.1.in_order.1);
-          to_the_end = ⊎_elim (λ c. inl c) (λ e. inr (cc)) more.1.to_the_end;
-        },
-      )
+  -- One answer to an offer leaves one recording and one buffer, and one answer to a close one buffer.
+  offer_leaves : (h : Held) (xs piece buffer : List ℕ) (a : Result ℕ Fault) (h' h'' : Held) (one other : List ℕ) → Open R xs h →
+      AfterOffer R h piece buffer a h' one → AfterOffer R h piece buffer a h'' other → (one ≡ other) × (h' ≡ h'')
+  offer_leaves h xs piece buffer (Err f) h' h'' one other o v w = (cc, cc)
+  offer_leaves h xs piece buffer (Ok n) h' h'' one other o v w =
+      let c = v.1 xs o in
+      let d = w.1 xs o in
+      (same_written n buffer one other (complete R xs) v.0 w.0 (sym c.1 ∙ d.1), one_held R (xs ++ piece) h' h'' c.0.holds d.0.holds)
 
-  -- Two answers to one offer, or to one close, are equal, and so are the buffers after them.
-  offers_once : (h : Held) (xs piece buffer : List ℕ) (a b : Result ℕ Fault) (h' h'' : Held) (one other : List ℕ) → Open R xs h →
-      Offers R h piece buffer a h' one → Offers R h piece buffer b h'' other →
-      (a ≡ b) × (one ≡ other) × (h' ≡ h'') × ((ys : List ℕ) × Open R ys h')
-  offers_once h xs piece buffer a b h' h'' one other o p q = go a b (says_one a b (p.answers ∙ sym q.answers)) p.leaves q.leaves
-    where
-      go : (a b : Result ℕ Fault) → a ≡ b → AfterOffer R h piece buffer a h' one → AfterOffer R h piece buffer b h'' other →
-          (a ≡ b) × (one ≡ other) × (h' ≡ h'') × ((ys : List ℕ) × Open R ys h')
-      go (Ok n) (Err f) e v w = absurd cc
-      go (Err f) (Ok n) e v w = absurd cc
-      go (Err f) (Err g) e v w = (e, cc, cc, (xs, rw v.0 o))
-      go (Ok n) (Ok m) e v w =
-          let same : m ≡ n = cc in
-          let w' = rw same at w in
-          let c = v.1 xs o in
-          let d = w'.1 xs o in (
-            e,
-            same_written n buffer one other (complete R xs) v.0 w'.0 (sym c.1 ∙ d.1),
-            one_held R (xs ++ piece) h' h'' c.0.holds d.0.holds,
-            (xs ++ piece, c.0),
-          )
+  close_leaves : (h : Held) (xs buffer : List ℕ) (a : Result ℕ Fault) (h' h'' : Held) (one other : List ℕ) → Open R xs h →
+      AfterClose R h buffer a h' one → AfterClose R h buffer a h'' other → (one ≡ other) × (closing (close buffer a one) ≡ false → h' ≡ h'')
+  close_leaves h xs buffer (Err f) h' h'' one other o v w = (cc, λ _. cc)
+  close_leaves h xs buffer (Ok n) h' h'' one other o v w =
+      (same_written n buffer one other (complete R xs) v.0 w.0 (sym (v.1 xs o) ∙ w.1 xs o), λ e. absurd cc)
 
-  closes_once : (h : Held) (xs buffer : List ℕ) (a b : Result ℕ Fault) (h' h'' : Held) (one other : List ℕ) → Open R xs h →
-      Closes R h buffer a h' one → Closes R h buffer b h'' other → (a ≡ b) × (one ≡ other)
-  closes_once h xs buffer a b h' h'' one other o p q = go a b (says_one a b (p.answers ∙ sym q.answers)) p.leaves q.leaves
-    where
-      go : (a b : Result ℕ Fault) → a ≡ b → AfterClose R h buffer a h' one → AfterClose R h buffer b h'' other → (a ≡ b) × (one ≡ other)
-      go (Ok n) (Err f) e v w = absurd cc
-      go (Err f) (Ok n) e v w = absurd cc
-      go (Err f) (Err g) e v w = (e, cc)
-      go (Ok n) (Ok m) e v w =
-          let same : m ≡ n = cc in
-          let w' = rw same at w in
-          (e, same_written n buffer one other (complete R xs) v.0 w'.0 (sym (v.1 xs o) ∙ w'.1 xs o))
-
-  -- Two closes that answer the head of one list.
-  same_close : (h : Held) (xs : List ℕ) (a : Ask) (asks more more' : List Ask) (buffer buffer' : List ℕ) (x y : Result ℕ Fault) (h' h'' : Held) (after after' : List ℕ) →
-      Open R xs h → a ∷ asks ≡ ask_close buffer ∷ more → a ∷ asks ≡ ask_close buffer' ∷ more' →
-      Closes R h buffer x h' after → Closes R h buffer' y h'' after' → (x ≡ y) × (close buffer x after ≡ close buffer' y after')
-  same_close h xs a asks more more' buffer buffer' x y h' h'' after after' o e f p q =
-      let same : buffer' ≡ buffer = cc in
-      let once = closes_once h xs buffer x y h' h'' after after' o p (rw same at q) in
-      (once.0, cc (once.0, once.1))
-
-  -- The rest of a run follows the rest of its list.
-  after_offer : (h : Held) (a : Ask) (asks : List Ask) (piece buffer : List ℕ) (answer : Result ℕ Fault) (after : List ℕ) (calls : List Call) →
-      (p : Follows h (a ∷ asks) (offer piece buffer answer after ∷ calls)) → Follows p.runs.0 asks calls
-  after_offer h a asks piece buffer answer after calls p =
-      let same = p.in_order.1 in
-      record {
-        runs = p.runs.2;
-        in_order = (p.in_order.0, cc);
-        to_the_end = ⊎_elim (λ c. inl c) (λ e. inr (cc)) p.to_the_end;
-      }
-
-  after_close : (h : Held) (a : Ask) (asks : List Ask) (buffer : List ℕ) (f : Fault) (after : List ℕ) (calls : List Call) →
-      Follows h (a ∷ asks) (close buffer (Err f) after ∷ calls) → Follows h asks calls
-  after_close h a asks buffer f after calls p =
-      let same = p.in_order.1 in
-      record {
-        runs = rw p.runs.1.leaves.0 at p.runs.2;
-        in_order = (p.in_order.0, cc);
-        to_the_end = ⊎_elim (λ c. inl c) (λ e. inr (cc)) p.to_the_end;
-      }
-
-  -- A list is not answered by no call and by some.
-  none_and_some : (h : Held) (asks : List Ask) (c : Call) (calls : List Call) → Follows h asks [] → Follows h asks (c ∷ calls) → ⊥
-  none_and_some h asks c calls p q =
-      let same = q.in_order.1 in
-      elim p.to_the_end [ inl e ↦ e | inr e ↦ cc ]
-
-  -- And no other.
-  follow_once : (asks : List Ask) (h : Held) (xs : List ℕ) → Open R xs h → (one other : List Call) →
-      Follows h asks one → Follows h asks other → one ≡ other
-  follow_once asks h xs o [] [] p q = refl
-  follow_once asks h xs o [] (c ∷ cs) p q = absurd (none_and_some h asks c cs p q)
-  follow_once asks h xs o (c ∷ cs) [] p q = absurd (none_and_some h asks c cs q p)
-  follow_once [] h xs o (c ∷ cs) (d ∷ ds) p q =
-      let e = p.in_order.1 in
-      absurd cc
-  follow_once (a ∷ asks) h xs o (offer piece buffer answer after ∷ cs) (offer piece' buffer' answer' after' ∷ ds) p q =
-      let e = p.in_order.1 in
-      let f = q.in_order.1 in
+  -- So two calls that ask the same are the same, and leave the same.
+  once : (h : Held) (c d : Call) (h' h'' : Held) → IsOpen h → asked c ≡ asked d → CallMeets R h c h' → CallMeets R h d h'' →
+      (c ≡ d) × (closing c ≡ false → h' ≡ h'')
+  once h (offer piece buffer a one) (offer piece' buffer' b other) h' h'' o e p q =
       let same_piece : piece' ≡ piece = cc in
       let same_buffer : buffer' ≡ buffer = cc in
-      let second = rw (same_piece, same_buffer) at q.runs.1 in
-      let once = offers_once h xs piece buffer answer answer' p.runs.0 q.runs.0 after after' o p.runs.1 second in
-      let same_answer = once.0 in
-      let same_after = once.1 in
-      let more = follow_once asks p.runs.0 once.3.0 once.3.1 cs ds
-      (after_offer h a asks piece buffer answer after cs p)
-      (rw once.2 (after_offer h a asks piece' buffer' answer' after' ds q)) in
-      cc
-  follow_once (a ∷ asks) h xs o (offer piece buffer answer after ∷ cs) (close buffer' answer' after' ∷ ds) p q =
-      let e = p.in_order.1 in
-      let f = q.in_order.1 in
-      absurd cc
-  follow_once (a ∷ asks) h xs o (close buffer answer after ∷ cs) (offer piece' buffer' answer' after' ∷ ds) p q =
-      let e = p.in_order.1 in
-      let f = q.in_order.1 in
-      absurd cc
-  follow_once (a ∷ asks) h xs o (close buffer (Ok n) after ∷ cs) (close buffer' (Ok m) after' ∷ ds) p q =
-      let same = (same_close h xs a asks _ _ buffer buffer' (Ok n) (Ok m) _ _ after after' o p.in_order.1 q.in_order.1 p.runs.1 q.runs.1).1 in
-      let none = p.runs.2 in
-      let none' = q.runs.2 in
-      cc
-  follow_once (a ∷ asks) h xs o (close buffer (Err f) after ∷ cs) (close buffer' (Err g) after' ∷ ds) p q =
-      let same = (same_close h xs a asks _ _ buffer buffer' (Err f) (Err g) _ _ after after' o p.in_order.1 q.in_order.1 p.runs.1 q.runs.1).1 in
-      let more = follow_once asks h xs o cs ds (after_close h a asks buffer f after cs p) (after_close h a asks buffer' g after' ds q) in
-      cc
-  follow_once (a ∷ asks) h xs o (close buffer (Ok n) after ∷ cs) (close buffer' (Err g) after' ∷ ds) p q =
-      let same = (same_close h xs a asks _ _ buffer buffer' (Ok n) (Err g) _ _ after after' o p.in_order.1 q.in_order.1 p.runs.1 q.runs.1).0 in
-      absurd cc
-  follow_once (a ∷ asks) h xs o (close buffer (Err f) after ∷ cs) (close buffer' (Ok m) after' ∷ ds) p q =
-      let same = (same_close h xs a asks _ _ buffer buffer' (Err f) (Ok m) _ _ after after' o p.in_order.1 q.in_order.1 p.runs.1 q.runs.1).0 in
-      absurd cc
+      let q' = rw (same_piece, same_buffer) at q in
+      let same = says_one a b (p.answers ∙ sym q'.answers) in
+      let left = offer_leaves h o.0 piece buffer a h' h'' one other o.1 p.leaves (rw (← same) at q'.leaves) in
+      (cc left.0, λ _. left.1)
+  once h (close buffer a one) (close buffer' b other) h' h'' o e p q =
+      let same_buffer : buffer' ≡ buffer = cc in
+      let q' = rw same_buffer at q in
+      let same = says_one a b (p.answers ∙ sym q'.answers) in
+      let left = close_leaves h o.0 buffer a h' h'' one other o.1 p.leaves (rw (← same) at q'.leaves) in
+      (cc left.0, left.1)
+  once h (offer _ _ _ _) (close _ _ _) h' h'' o e p q = absurd cc
+  once h (close _ _ _) (offer _ _ _ _) h' h'' o e p q = absurd cc
 
   pub every_list_records : EveryListRecords R
-  every_list_records asks =
-      let o = opened_open R law in
-      let f = follow asks opened [] o in (
-        (f.0, record { runs = f.1.runs; in_order = f.1.in_order; to_the_end = f.1.to_the_end }),
-        λ one other p q.
-            follow_once asks opened [] o one other
-            (record { runs = p.runs; in_order = p.in_order; to_the_end = p.to_the_end })
-            (record { runs = q.runs; in_order = q.in_order; to_the_end = q.to_the_end }),
-      )
+  every_list_records = exactly_one (CallMeets R) closing asked IsOpen answer_ask stays_open once opened ([], opened_open R law)
 
   pub valid_is_accepted : ValidIsAccepted R
   valid_is_accepted blocks = (
     (λ v.
         let n = offer_writes R 0 (length blocks) in
         let buffer : List ℕ = replicate n 0 in
-        let a = accept opened [] blocks buffer n (opened_open R law)
+        let o = opened_open R law in
+        let a = accept opened [] blocks buffer n o
         (record { fits = omega arith; below = v.below; room_for = omega (arith, length-replicate {A = ℕ} n 0) }) refl in
-        let m = close_writes R a.then.count in
+        let m = close_writes R a.0.count in
         let buffer' : List ℕ = replicate m 0 in
-        let b = end_with a.then blocks buffer' m a.still_open (omega (arith, length-replicate {A = ℕ} m 0)) refl in
-        (buffer, n, a.after, buffer', m, b.0, ((a.then, a.offers, (a.then, b.1, refl)), tt))),
+        let b = end_with a.0 blocks buffer' m (a.2.leaves.1 [] o).0 (omega (arith, length-replicate {A = ℕ} m 0)) refl in
+        (buffer, n, a.1, buffer', m, b.0, ((a.0, a.2, (a.0, b.1, refl)), tt))),
     (λ r.
         let v = (writes_streams R law (offer blocks r.0 (Ok r.1) r.2 ∷ close r.3 (Ok r.4) r.5 ∷ []) r.6).0 in
         rw append-nil at v),

@@ -4,7 +4,7 @@ use lib.Arith.{digits_lt}
 use Rattle.std.specs.List.{AllByRecursion}
 use Rattle.std.proofs.lemmas.Bool.{cases_lt}
 use Rattle.std.proofs.lemmas.List.{length-append, length-drop, get_or-append-add}
-use Rattle.std.proofs.ByRecursion.{All-append, All-drop, All-take}
+use Rattle.schedule.proofs.Each.{each_append, each_drop, each_take}
 use Rattle.schedule.specs.Ranges.{Ranges, Lawful, alphabet, end_mark}
 use Rattle.schedule.proofs.Sizes.{spill_there}
 use Rattle.writer.specs.Stream.{Valid, marks, symbols, first_spill, first_pass, in_blocks, group, groups, closed, complete, stream}
@@ -95,7 +95,7 @@ module _ (R : Ranges) (law : Lawful R) where
   closed_below j y (s ∷ []) v e l h k = absurd (omega arith)
   closed_below j y (s ∷ t ∷ ss) v e l h k =
       let low = law.carrier_low j (omega arith) in
-      All-append (λ x. x < R.base) (group R j (first_pass R j s t).0 y) (closed R (suc j) (first_pass R j s t).1 ss)
+      each_append (λ x. x < R.base) (group R j (first_pass R j s t).0 y) (closed R (suc j) (first_pass R j s t).1 ss)
       (group_below j (first_pass R j s t).0 y (omega arith) (mod-lt _ (omega arith)) k)
       (closed_below (suc j) (first_pass R j s t).1 ss v.1.1 (omega arith) (omega arith) (omega arith)
       (spill_below R law j s t (omega arith) v.0 v.1.0))
@@ -104,10 +104,10 @@ module _ (R : Ranges) (law : Lawful R) where
   symbols_below : (blocks : List ℕ) → Valid R blocks → AllByRecursion (λ s. s < alphabet R) (symbols R blocks)
   symbols_below blocks v =
       let m = marked R law.lead_high (length blocks) in
-      All-append (λ s. s < alphabet R) blocks (marks R (length blocks))
+      each_append (λ s. s < alphabet R) blocks (marks R (length blocks))
       (blocks_are_symbols R law blocks v.below)
       (subst (AllByRecursion (λ s. s < alphabet R)) m.marks_are
-      (All-take (λ s. s < alphabet R) (length (marks R (length blocks))) (end_mark R ∷ end_mark R ∷ []) (omega arith, (omega arith, tt))))
+      (each_take (λ s. s < alphabet R) (length (marks R (length blocks))) (end_mark R ∷ end_mark R ∷ []) (omega arith, (omega arith, tt))))
 
   pub symbols_fit : (blocks : List ℕ) → Valid R blocks → SymbolsFit R blocks
   symbols_fit blocks v =
@@ -121,7 +121,7 @@ module _ (R : Ranges) (law : Lawful R) where
         fewer = length-drop R.lead (symbols R blocks);
         even = omega arith;
         fits = omega arith;
-        below = All-drop (λ s. s < alphabet R) R.lead (symbols R blocks) all;
+        below = each_drop (λ s. s < alphabet R) R.lead (symbols R blocks) all;
         first_below = first_below R law (symbols R blocks) all;
       }
 

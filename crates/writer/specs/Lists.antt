@@ -1,9 +1,9 @@
 -- Lists of calls that were written down beforehand.
-use Rattle.std.specs.Prelude.{◌≡◌, ℕ, ◌⊎◌, ◌↔◌, List, [], ◌∷◌, ◌++◌, map, Ok}
+use Rattle.std.specs.Prelude.{ℕ, ◌↔◌, List, [], ◌∷◌, Ok}
 use Rattle.schedule.specs.Ranges.{Ranges}
 use Rattle.writer.specs.Stream.{Valid}
 use Rattle.writer.specs.Holding.{opened}
-use Rattle.writer.specs.Runs.{Call, Records, ClosedAtLast, Recorded}
+use Rattle.writer.specs.Runs.{Follows, ExactlyOne, Call, Records, ClosedAtLast, Recorded}
 use Rattle.writer.specs.Runs.Call.{offer, close}
 
 -- A call without its answer.
@@ -15,18 +15,13 @@ abbrev pub asked : Call → Ask
 asked (offer piece buffer answer after) = ask_offer piece buffer
 asked (close buffer answer after) = ask_close buffer
 
--- A run on a new recording that answers a beginning of the list in order, and either ends with the accepted closing or
--- answers the whole list.
-pub record Answers (R : Ranges) (asks : List Ask) (calls : List Call) : Type 0 where
-  pub runs : Records R opened calls
-  pub in_order : (rest : List Ask) × (asks ≡ map asked calls ++ rest)
-  pub to_the_end : ClosedAtLast calls ⊎ (map asked calls ≡ asks)
+-- A run on a new recording that answers the list, up to its accepted closing or to the end.
+abbrev pub Answers : Ranges → List Ask → List Call → Type 0
+Answers R = Follows (Records R opened) ClosedAtLast asked
 
 -- Every list has exactly one such run.
 abbrev pub EveryListRecords : Ranges → Type 0
-EveryListRecords R =
-    (asks : List Ask) → ((calls : List Call) × Answers R asks calls)
-    × ((one other : List Call) → Answers R asks one → Answers R asks other → one ≡ other)
+EveryListRecords R = ExactlyOne (Answers R)
 
 -- A run that accepts these blocks in one offer, and closes.
 abbrev pub AcceptsAtOnce : Ranges → List ℕ → Type 0

@@ -29,11 +29,7 @@ impl<S: Schedule> Recording<S> {
     {
         Recording {
             schedule,
-            held: Held {
-                count: 0,
-                spill: 0,
-                waiting: 0,
-            },
+            held: Held::default(),
         }
     }
 

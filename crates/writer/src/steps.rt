@@ -1,4 +1,5 @@
-// The writer's steps: one symbol, a piece, the end marks, and what stands against them.
+// The writer's steps: one symbol, a piece, the end marks, and what stands against them. That the schedule stays is a clause
+// of each that alters the recording, as no ghost field can say it.
 ghost use Rattle.std.specs.Prelude.{◌≡◌, ℕ, ◌+◌, ◌^◌, ◌<◌, ◌≤◌, List, [], ◌∷◌, ◌++◌, length, take, drop, nat_lt};
 ghost use Rattle.std.specs.List.{AllByRecursion};
 ghost use Rattle.schedule.specs.Faults.{says, judged};
@@ -15,7 +16,9 @@ use schedule::fault::{Fault, PieceFault};
 use schedule::interface::Schedule;
 
 impl<S: Schedule> Recording<S> {
-    // What is held after one more symbol, and the group that it completes, if any.
+    // What is held after one more symbol, and the group that it completes, if any. It is not held yet: the last end mark
+    // goes beyond N, which a recording does not. A symbol is a number here and in the passes, with its bound in the
+    // contract: a type for it would be taken apart wherever it is reckoned with.
     fn after(&self, symbol: u64) -> (Held, Option<Group>)
         requires { symbol ≤ 16777216 }
         ensures count { result.0.count ≡ self.now.held.count + 1 }
@@ -74,7 +77,7 @@ impl<S: Schedule> Recording<S> {
 
     // Takes blocks one after another, puts each group that they complete into the buffer, from its front, and answers
     // how many blocks were written. `at` moves on by none, one or two: an iterator over the buffer's places would leave
-    // nothing known of the buffer.
+    // nothing known of the buffer, and a rest that is handed on as a slice no name for what stands before it.
     pub(crate) fn write(&mut self, blocks: &[u64], buffer: &mut [u64]) -> usize
         requires below { AllByRecursion (λ x. x < (S.ranges self.old.schedule).base) blocks.now }
         requires few { self.old.held.count + length blocks.now ≤ longest (S.ranges self.old.schedule) }
@@ -131,7 +134,7 @@ impl<S: Schedule> Recording<S> {
         check_room(room, count + self.mark_count() + 1 - self.due(count))
     }
 
-    // Takes the end marks: what is held then, and the group that they complete. The first of two waits for the second.
+    // What is held after the end marks, and the group that they complete, if any. The first of two waits for the second.
     fn take_marks(&mut self) -> (Held, Option<Group>)
         ensures schedule { self.new.schedule ≡ self.old.schedule }
         ensures count { result.0.count ≡ self.old.held.count + length (marks (S.ranges self.old.schedule) self.old.held.count) }
@@ -164,7 +167,7 @@ impl<S: Schedule> Recording<S> {
     }
 }
 
-// Puts a group, if there is one, into the buffer at `at`, and answers the place behind it.
+// Puts a group, if there is one, into the buffer at `at`, by index as `write` goes, and answers the place behind it.
 fn put(buffer: &mut [u64], at: usize, group: Option<Group>) -> usize
     requires { at + length (completed group) ≤ length buffer.old }
     ensures place { result ≡ at + length (completed group) }
