@@ -7,7 +7,7 @@ ghost use Rattle.writer.specs.Holding.{group_blocks};
 use crate::held::Group;
 use schedule::interface::Schedule;
 
-// The first pass on pair j: the carrier and the spill of (s, t), both in one answer, a tuple as every pass gives.
+// The first pass on pair j: the carrier and the spill of (s, t), both in one answer.
 pub(crate) fn first_pass<S: Schedule>(schedule: &S, j: u64, s: u64, t: u64) -> (u64, u64)
     requires { (s ≤ 16777216) × (t ≤ 16777216) }
     ensures exact { j < (S.ranges schedule.now).steps → result ≡ first_pass (S.ranges schedule.now) j s t }
