@@ -45,7 +45,7 @@ impl<S: Schedule> Recording<S> {
 
     // Writes the remaining groups with the closing group at the buffer's front, answers how many blocks that are, and
     // uses the recording up. Refuses with 12, and then hands the recording back.
-    pub fn close(self, buffer: &mut [u64]) -> Result<usize, Refused<Recording<S>>>
+    pub fn close(mut self, buffer: &mut [u64]) -> Result<usize, Refused<Recording<S>>>
     where
         S: Drop,
         ensures { MatchResult result (λ n. Closes (S.ranges self.schedule) self.held buffer.old (Ok n) self.held buffer.new) (λ e. Closes (S.ranges self.schedule) self.held buffer.old (Err e.fault) e.kept.held buffer.new × (e.kept.schedule ≡ self.schedule)) }

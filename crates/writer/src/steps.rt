@@ -18,7 +18,9 @@ use schedule::interface::Schedule;
 impl<S: Schedule> Recording<S> {
     // What is held after one more symbol, and the group that it completes, if any. It is not held yet: the last end mark
     // goes beyond N, which a recording does not. A symbol is a number here and in the passes, with its bound in the
-    // contract: a type for it would be taken apart wherever it is reckoned with.
+    // contract: a type for it would be taken apart wherever it is reckoned with. Inlined, as a call for each symbol of a
+    // piece would pass what is held through memory.
+    #[inline(always)]
     fn after(&self, symbol: u64) -> (Held, Option<Group>)
         requires { symbol ≤ 16777216 }
         ensures count { result.0.count ≡ self.now.held.count + 1 }
@@ -61,7 +63,8 @@ impl<S: Schedule> Recording<S> {
         )
     }
 
-    // Takes one more symbol, and answers the group that it completes, if any.
+    // Takes one more symbol, and answers the group that it completes, if any. Inlined likewise.
+    #[inline(always)]
     fn push(&mut self, symbol: u64) -> Option<Group>
         requires symbol { symbol ≤ 16777216 }
         requires few { self.old.held.count < longest (S.ranges self.old.schedule) }
@@ -83,6 +86,7 @@ impl<S: Schedule> Recording<S> {
         requires few { self.old.held.count + length blocks.now ≤ longest (S.ranges self.old.schedule) }
         requires room { offer_writes (S.ranges self.old.schedule) self.old.held.count (length blocks.now) ≤ length buffer.old }
         ensures schedule { self.new.schedule ≡ self.old.schedule }
+        ensures count { self.new.held.count ≡ self.old.held.count + length blocks.now }
         ensures wrote { result ≡ offer_writes (S.ranges self.old.schedule) self.old.held.count (length blocks.now) }
         ensures behind { drop result buffer.new ≡ drop result buffer.old }
         ensures grows { let R = S.ranges self.old.schedule in (ss : List ℕ) → Holds R ss self.old.held → Grows R ss blocks.now self.new.held (take result buffer.new) }
@@ -151,13 +155,11 @@ impl<S: Schedule> Recording<S> {
     }
 
     // Writes the remaining groups with the closing group, whose carrier is 0, and answers how many blocks that are.
-    pub(crate) fn finish(mut self, buffer: &mut [u64]) -> usize
-    where
-        S: Drop,
-        requires room { close_writes (S.ranges self.schedule) self.held.count ≤ length buffer.old }
-        ensures wrote { result ≡ close_writes (S.ranges self.schedule) self.held.count }
+    pub(crate) fn finish(&mut self, buffer: &mut [u64]) -> usize
+        requires room { close_writes (S.ranges self.old.schedule) self.old.held.count ≤ length buffer.old }
+        ensures wrote { result ≡ close_writes (S.ranges self.old.schedule) self.old.held.count }
         ensures behind { drop result buffer.new ≡ drop result buffer.old }
-        ensures closes { let R = S.ranges self.schedule in (blocks : List ℕ) → Holds R blocks self.held → stream R blocks ≡ complete R blocks ++ take result buffer.new }
+        ensures closes { let R = S.ranges self.old.schedule in (blocks : List ℕ) → Holds R blocks self.old.held → stream R blocks ≡ complete R blocks ++ take result buffer.new }
     {
         let (last, group) = self.take_marks();
         let at = put(buffer, 0, group);

@@ -9,10 +9,10 @@ returns-clause-behind g c =
 
 pub returns-clause-closes : goal.returns-clause-closes
 returns-clause-closes g c =
-    let R = g.S.Schedule.ranges c.args.self.schedule in
+    let R = g.S.Schedule.ranges c.args.self.now.schedule in
     let same = c.take_marks-group.ensures.schedule in
     let lead = rw same at c.lead.ensures in
     λ blocks holds.
     rw (c.put.ensures.front, c.put-at.ensures.front)
-    (closes R blocks c.args.self.held _ _ holds (c.take_marks-group.ensures.grows blocks holds)
+    (closes R blocks c.args.self.now.held _ _ holds (c.take_marks-group.ensures.grows blocks holds)
     (c.saturating_sub-j.result / 2) (omega arith) _ (rw same at c.second_pass-closing.ensures))
