@@ -1,14 +1,12 @@
 // The cases of one kind of schedule.
 use crate::page::{Ends, Page, checksum, mix};
-use crate::reading::{read_back, taken};
+use crate::reading::{Taken, read_back};
 use crate::writing::{sample, written, written_cut};
 use access::lookup;
 use schedule::fourfold::Fourfold;
 use schedule::interface::Schedule;
 use schedule::text::Listing;
-use std::alloc::{AllocError, Global};
-use std::fmt::Write;
-use std::io;
+use std::{fmt, io};
 
 // A kind's name, the widths that it is asked for, and at width 5 blocks that are taken and streams that are looked up
 // in, lawful ones and damaged ones.
@@ -39,11 +37,11 @@ impl<const LEADS: bool> Kind<LEADS> {
     fn cases_at_5<S: Schedule + Copy>(&self, page: &mut Page, schedule: S) -> io::Result<()> {
         self.cut_cases(page, schedule)?;
         for blocks in self.takes {
-            let said = taken(page.rt.alloc(), schedule, blocks)?;
-            page.line(format_args!("{} 5 taking{}:{said}", self.name, Listing(blocks)))?;
+            let taken = Taken { schedule, blocks };
+            page.line(format_args!("{} 5 taking{}:{taken}", self.name, Listing(blocks)))?;
         }
         for stream in self.streams {
-            let found = places(page.rt.alloc(), &schedule, stream)?;
+            let found = Places { schedule, stream };
             page.line(format_args!("{} 5 looking in{}:{found}", self.name, Listing(stream)))?;
         }
         Ok(())
@@ -58,20 +56,22 @@ impl<const LEADS: bool> Kind<LEADS> {
     ) -> io::Result<()> {
         let alloc = page.rt.alloc();
         let blocks = sample(alloc, &schedule, schedule.longest())?;
-        let stream = written(alloc, schedule, &blocks)?;
-        let mut joined = stream.clone()?;
-        let (two, _) = blocks.split_at(blocks.len().min(2));
-        for recording in [two, &[], &blocks] {
-            joined.extend_from_slice(&written(alloc, schedule, recording)?)?;
-        }
-        let back = read_back(alloc, schedule, &joined)?;
-        page.line(format_args!(
-            "{} {width}: {} blocks, {} written:{}, checksum {}; joined and read back: {}, checksum {}",
+        let mut stream = written(alloc, schedule, &blocks)?;
+        print!(page.rt;
+            "{} {width}: {} blocks, {} written:{}, checksum {}",
             self.name,
             blocks.len(),
             stream.len(),
             Ends(&stream),
-            checksum(&stream),
+            checksum(&stream)
+        )?;
+        let (two, _) = blocks.split_at(blocks.len().min(2));
+        for recording in [two, &[], &blocks] {
+            stream.extend_from_slice(&written(alloc, schedule, recording)?)?;
+        }
+        let back = read_back(alloc, schedule, &stream)?;
+        page.line(format_args!(
+            "; joined and read back: {}, checksum {}",
             back.len(),
             checksum(&back)
         ))
@@ -88,13 +88,14 @@ impl<const LEADS: bool> Kind<LEADS> {
         let alloc = page.rt.alloc();
         let n = schedule.longest();
         let stream = written(alloc, schedule, &sample(alloc, &schedule, n)?)?;
-        let end = n.saturating_add(5);
-        let found = (0..end)
-            .filter(|p| lookup(&schedule, &stream, *p).is_ok())
-            .count();
-        let total = (0..end).fold(0, |total, p| match lookup(&schedule, &stream, p) {
-            Ok(block) => mix(total, block),
-            Err(fault) => mix(total, fault.number().wrapping_add(fault.place())),
+        let (found, total) = (0..n.saturating_add(5)).fold((0u64, 0), |(found, total), p| {
+            match lookup(&schedule, &stream, p) {
+                Ok(block) => (found.wrapping_add(1), mix(total, block)),
+                Err(fault) => (
+                    found,
+                    mix(total, fault.number().wrapping_add(fault.place())),
+                ),
+            }
         });
         page.line(format_args!(
             "{} {width}: {found} blocks found, checksum {total}",
@@ -115,13 +116,20 @@ impl<const LEADS: bool> Kind<LEADS> {
 }
 
 // What stands at every place up to 6 of a stream.
-fn places<S: Schedule>(alloc: Global, schedule: &S, stream: &[u64]) -> Result<String, AllocError> {
-    let mut said = String::new(alloc);
-    for p in 0..7 {
-        match lookup(schedule, stream, p) {
-            Ok(block) => write!(said, " {block}")?,
-            Err(fault) => write!(said, " {fault}")?,
+#[derive(Clone, Copy)]
+struct Places<'a, S: Schedule + Copy> {
+    schedule: S,
+    stream: &'a [u64],
+}
+
+impl<S: Schedule + Copy> fmt::Display for Places<'_, S> {
+    fn fmt<W: fmt::Write>(&self, f: &mut fmt::Formatter<W>) -> fmt::Result {
+        for p in 0..7 {
+            match lookup(&self.schedule, self.stream, p) {
+                Ok(block) => write!(f, " {block}")?,
+                Err(fault) => write!(f, " {fault}")?,
+            }
         }
+        Ok(())
     }
-    Ok(said)
 }

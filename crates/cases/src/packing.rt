@@ -7,10 +7,14 @@ use std::io;
 fn pack_case(page: &mut Page, width: u64, bytes: &[u8], room: usize) -> io::Result<()> {
     let mut buffer = vec![in page.rt.alloc(); 7u64; room]?;
     let answer = pack(width, bytes, &mut buffer);
-    let asked = format!(in page.rt.alloc(); "pack {} bytes at {width} into {room}", bytes.len())?;
+    let (count, after) = (bytes.len(), Listing(&buffer));
     match answer {
-        Ok(n) => page.line(format_args!("{asked}: {n} written,{}", Listing(&buffer))),
-        Err(fault) => page.line(format_args!("{asked}: {fault},{}", Listing(&buffer))),
+        Ok(n) => page.line(format_args!(
+            "pack {count} bytes at {width} into {room}: {n} written,{after}"
+        )),
+        Err(fault) => page.line(format_args!(
+            "pack {count} bytes at {width} into {room}: {fault},{after}"
+        )),
     }
 }
 

@@ -3,27 +3,29 @@ use reader::reader::Reader;
 use reader::reading::Brought;
 use schedule::interface::Schedule;
 use std::alloc::{AllocError, Global};
-use std::fmt::Write;
+use std::fmt;
 
 // What these blocks bring, refused ones too, and then a stop.
-pub(crate) fn taken<S: Schedule + Drop>(
-    alloc: Global,
-    schedule: S,
-    blocks: &[u64],
-) -> Result<String, AllocError> {
-    let mut reader = Reader::new(schedule);
-    let mut said = String::new(alloc);
-    for block in blocks {
-        match reader.take(*block) {
-            Ok(brought) => write!(said, " {brought}")?,
-            Err(fault) => write!(said, " {fault}")?,
+#[derive(Clone, Copy)]
+pub(crate) struct Taken<'a, S: Schedule + Copy> {
+    pub(crate) schedule: S,
+    pub(crate) blocks: &'a [u64],
+}
+
+impl<S: Schedule + Copy> fmt::Display for Taken<'_, S> {
+    fn fmt<W: fmt::Write>(&self, f: &mut fmt::Formatter<W>) -> fmt::Result {
+        let mut reader = Reader::new(self.schedule);
+        for block in self.blocks {
+            match reader.take(*block) {
+                Ok(brought) => write!(f, " {brought}")?,
+                Err(fault) => write!(f, " {fault}")?,
+            }
+        }
+        match reader.stop() {
+            Ok(()) => write!(f, ", stopped"),
+            Err(refused) => write!(f, ", stop {}", refused.fault),
         }
     }
-    match reader.stop() {
-        Ok(()) => write!(said, ", stopped")?,
-        Err(refused) => write!(said, ", stop {}", refused.fault)?,
-    }
-    Ok(said)
 }
 
 // The blocks that a stream brings, with a number beyond every block for an end, as a checksum is of numbers; short where
