@@ -90,7 +90,7 @@ number_from-past (suc n) q =
     grind (arith, nat_tests)
 
 -- A block of so many bytes is below the power of 256.
-number_from-below : (n q : ℕ) (bytes : List ℕ) → ((k : ℕ) → get_or bytes k 0 < 256) → number_from n bytes q < 256 ^ n
+pub number_from-below : (n q : ℕ) (bytes : List ℕ) → ((k : ℕ) → get_or bytes k 0 < 256) → number_from n bytes q < 256 ^ n
 number_from-below zero q bytes fits = omega arith
 number_from-below (suc n) q bytes fits =
     let rest = number_from-below n (q + 1) bytes fits in

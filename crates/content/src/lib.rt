@@ -12,7 +12,8 @@ use schedule::width::Width;
 // The block of a chunk, low byte first. An incomplete chunk is filled with one byte 80 (hexadecimal) and then zeros.
 fn block_of(size: usize, chunk: &[u8]) -> u64
     requires { (size ≤ 3) × (length chunk.now ≤ size) }
-    ensures { result ≡ number_from size chunk.now 0 }
+    ensures is { result ≡ number_from size chunk.now 0 }
+    ensures below { result < 256 ^ size }
 {
     let filler = if chunk.len() < size { 0x80 } else { 0 };
     chunk
@@ -25,7 +26,8 @@ fn block_of(size: usize, chunk: &[u8]) -> u64
 // `buffer.iter_mut().zip(..)` no invariant can name the buffer.
 fn write_blocks(size: usize, bytes: &[u8], buffer: &mut [u64])
     requires { (1 ≤ size) × (size ≤ 3) × (blocks_of size (length bytes.now) ≤ length buffer.old) }
-    ensures { Packed size (blocks_of size (length bytes.now)) bytes.now buffer.old buffer.new }
+    ensures packed { Packed size (blocks_of size (length bytes.now)) bytes.now buffer.old buffer.new }
+    ensures below { (k : ℕ) → k < blocks_of size (length bytes.now) → slice_index buffer.new k < 256 ^ size }
 {
     for (i, chunk) in bytes.chunks(size).enumerate() {
         buffer[i] = block_of(size, chunk);
