@@ -1,5 +1,5 @@
 -- What a reader holds, and what a group makes known.
-use Rattle.std.specs.Prelude.{◌≡◌, ℕ, zero, suc, ◌+◌, ◌-◌, ◌*◌, ◌<◌, ◌≤◌, Bool, true, false, cond, not, ◌&&◌, ◌||◌, List, [], ◌∷◌, ◌++◌, codes, Some, None, Option, ◌==◌}
+use Rattle.std.specs.Prelude.{◌≡◌, ℕ, zero, suc, ◌+◌, ◌-◌, ◌*◌, ◌<◌, ◌≤◌, Bool, true, false, cond, not, ◌&&◌, ◌||◌, List, [], ◌∷◌, ◌++◌, map, codes, Some, None, Option, ◌==◌}
 use Rattle.std.specs.Fmt.{decimal}
 use Rattle.schedule.specs.Ranges.{Ranges, end_mark}
 use Rattle.writer.specs.Passes.{pair_number, pair_of, second_pass_back}
@@ -16,13 +16,15 @@ brought (Two x y) = (x ∷ y ∷ [], false)
 brought End = ([], true)
 brought (OneThenEnd x) = (x ∷ [], true)
 
+-- Words with a space between any two of them; - where there is none.
+abbrev pub spaced : List (List ℕ) → List ℕ
+spaced [] = codes "-"
+spaced (word ∷ []) = word
+spaced (word ∷ next ∷ words) = word ++ (codes " " ++ spaced (next ∷ words))
+
 -- What a block brings, as it is printed: the blocks, and / for an end; - for nothing.
 abbrev pub printed : Brought → List ℕ
-printed Nothing = codes "-"
-printed (One x) = decimal x
-printed (Two x y) = decimal x ++ (codes " " ++ decimal y)
-printed End = codes "/"
-printed (OneThenEnd x) = decimal x ++ codes " /"
+printed what = spaced (map decimal (brought what).0 ++ cond (brought what).1 (codes "/" ∷ []) [])
 
 -- The number of the group that block b completes, if it completes one. Group 0 with lead 0 is a single block.
 abbrev pub completes : (lead base step : ℕ) → Option ℕ → ℕ → Option ℕ
