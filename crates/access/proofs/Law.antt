@@ -15,7 +15,7 @@ use Rattle.access.proofs.Symbols.{is_block, block_below, is_mark, in_order}
 use Rattle.access.proofs.Finding.{found_at, pair_found, spill_first, lead_found}
 
 -- There is such a place.
-there : (R : Ranges) (xs : List ℕ) (p end : ℕ) → 1 ≤ p → p ≤ R.lead + 2 * R.steps → end ≤ length xs → no_place R xs p end ≡ false
+pub there : (R : Ranges) (xs : List ℕ) (p end : ℕ) → 1 ≤ p → p ≤ R.lead + 2 * R.steps → end ≤ length xs → no_place R xs p end ≡ false
 there R xs p end h k l = grind (arith, nat_tests)
 
 by_parity : (v s t : ℕ) (ss : List ℕ) (k q : ℕ) → s ≡ get_or ss k 0 → t ≡ get_or ss (k + 1) 0 → q ≡ k + v → v < 2 → cond (eqb v 0) s t ≡ get_or ss q 0

@@ -12,7 +12,7 @@ use Rattle.reader.proofs.Limits.{below_limit, zero_below_limit}
 use Rattle.access.specs.Lookup.{start, part, earlier, later}
 
 -- The groups of the pairs before, and then those from group k on.
-closed_append : (R : Ranges) (j k y : ℕ) (xs zs : List ℕ) → length xs ≡ 2 * (k - j) → j ≤ k →
+pub closed_append : (R : Ranges) (j k y : ℕ) (xs zs : List ℕ) → length xs ≡ 2 * (k - j) → j ≤ k →
     closed R j y (xs ++ zs) ≡ groups R j y xs ++ closed R k (last_spill R j y xs) zs
 closed_append R j k y [] zs e h = ap (λ (i : ℕ). closed R i y zs) (omega arith)
 closed_append R j k y (x ∷ []) zs e h = absurd (omega arith)
@@ -76,7 +76,7 @@ module _ (R : Ranges) (law : Lawful R) (i y s t : ℕ) (xs rest : List ℕ) (lon
   abbrev w' : ℕ
   w' = head.carrier * R.spill (suc i) + next
 
-  pair_part : part R (closed R 0 y (xs ++ s ∷ t ∷ rest)) i ≡ in_blocks R.lead R.base i w ++ (w' % R.base) ∷ (w' / R.base) ∷ []
+  pub pair_part : part R (closed R 0 y (xs ++ s ∷ t ∷ rest)) i ≡ in_blocks R.lead R.base i w ++ (w' % R.base) ∷ (w' / R.base) ∷ []
   pair_part =
       let front = first_length R law.lead_high y xs in
       let two = in_blocks R.lead R.base i w ++ in_blocks R.lead R.base (suc i) w' in

@@ -108,7 +108,7 @@ module _ (R : Ranges) where
 
 module _ (R : Ranges) (law : Lawful R) where
   -- Group i + 1 of the carrier r, behind the pair (s, t); and group 0 of the carrier r and the spill y.
-  pair_answers : (i r s t p : ℕ) (x : List ℕ × Bool) → i < R.steps → s < alphabet R → t < alphabet R → r < limit R (suc i) →
+  pub pair_answers : (i r s t p : ℕ) (x : List ℕ × Bool) → i < R.steps → s < alphabet R → t < alphabet R → r < limit R (suc i) →
       (s ≡ m R → t ≡ m R) → hands_over R (s ∷ t ∷ []) ≡ x → (x.1 ≡ true → r ≡ 0) → (x.1 ≡ false → suc i < R.steps) →
       group_answer R p (suc i) (first_pass R i s t).0 (r * R.spill (suc i) + (first_pass R i s t).1) ≡ Ok x
   pair_answers i r s t p x l hs ht hr order is ends goes_on =

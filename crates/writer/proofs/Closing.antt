@@ -53,7 +53,7 @@ pub symbols_lone : (R : Ranges) → R.lead ≡ 1 → symbols R [] ≡ end_mark R
 symbols_lone R e = marks_one R 0 (omega arith)
 
 -- The closing group stands behind the groups of the pairs.
-closed_is : (R : Ranges) (j y k : ℕ) (ss : List ℕ) → k ≡ j + length ss / 2 →
+pub closed_is : (R : Ranges) (j y k : ℕ) (ss : List ℕ) → k ≡ j + length ss / 2 →
     closed R j y ss ≡ groups R j y ss ++ group R k 0 (last_spill R j y ss)
 closed_is R j y k [] e = ap (λ (i : ℕ). group R i 0 y) (omega arith)
 closed_is R j y k (s ∷ []) e = ap (λ (i : ℕ). group R i 0 y) (omega arith)

@@ -7,12 +7,12 @@ use Rattle.writer.specs.Holding.{last_spill, unpaired, spill_left, Holds, Grows}
 use Rattle.writer.specs.declared.held.Held.{Held}
 
 -- A symbol that waits.
-record Waits (R : Ranges) (j y : ℕ) (ss : List ℕ) (x : ℕ) : Type 0 where
-  groups_stay : groups R j y (ss ++ x ∷ []) ≡ groups R j y ss
-  spill_stays : last_spill R j y (ss ++ x ∷ []) ≡ last_spill R j y ss
-  waits : unpaired (ss ++ x ∷ []) ≡ x
+pub record Waits (R : Ranges) (j y : ℕ) (ss : List ℕ) (x : ℕ) : Type 0 where
+  pub groups_stay : groups R j y (ss ++ x ∷ []) ≡ groups R j y ss
+  pub spill_stays : last_spill R j y (ss ++ x ∷ []) ≡ last_spill R j y ss
+  pub waits : unpaired (ss ++ x ∷ []) ≡ x
 
-waits : (R : Ranges) (j y : ℕ) (ss : List ℕ) (x : ℕ) → length ss % 2 ≡ 0 → Waits R j y ss x
+pub waits : (R : Ranges) (j y : ℕ) (ss : List ℕ) (x : ℕ) → length ss % 2 ≡ 0 → Waits R j y ss x
 waits R j y [] x e = record { groups_stay = refl; spill_stays = refl; waits = refl }
 waits R j y (s ∷ []) x e = absurd (omega arith)
 waits R j y (s ∷ t ∷ ss) x e =
@@ -24,13 +24,13 @@ waits R j y (s ∷ t ∷ ss) x e =
     }
 
 -- A symbol that joins the waiting one in pair k.
-record Joins (R : Ranges) (j k y : ℕ) (ss : List ℕ) (x : ℕ) : Type 0 where
-  groups_grow :
+pub record Joins (R : Ranges) (j k y : ℕ) (ss : List ℕ) (x : ℕ) : Type 0 where
+  pub groups_grow :
       groups R j y (ss ++ x ∷ []) ≡ groups R j y ss ++ group R k (first_pass R k (unpaired ss) x).0 (last_spill R j y ss)
-  new_spill : last_spill R j y (ss ++ x ∷ []) ≡ (first_pass R k (unpaired ss) x).1
-  none_waits : unpaired (ss ++ x ∷ []) ≡ 0
+  pub new_spill : last_spill R j y (ss ++ x ∷ []) ≡ (first_pass R k (unpaired ss) x).1
+  pub none_waits : unpaired (ss ++ x ∷ []) ≡ 0
 
-joins : (R : Ranges) (j k y : ℕ) (ss : List ℕ) (x : ℕ) → length ss % 2 ≡ 1 → k ≡ j + length ss / 2 → Joins R j k y ss x
+pub joins : (R : Ranges) (j k y : ℕ) (ss : List ℕ) (x : ℕ) → length ss % 2 ≡ 1 → k ≡ j + length ss / 2 → Joins R j k y ss x
 joins R j k y [] x e f = absurd (omega arith)
 joins R j k y (s ∷ []) x e f =
     subst (λ (i : ℕ). Joins R j i y (s ∷ []) x) (omega arith)
@@ -43,7 +43,23 @@ joins R j k y (s ∷ t ∷ ss) x e f =
       none_waits = more.none_waits;
     }
 
-same_first : (l : ℕ) (ss new : List ℕ) → l ≤ length ss → first_spill l (ss ++ new) ≡ first_spill l ss
+-- Two symbols that make pair k, behind pairs j to k - 1.
+pub record PairJoins (R : Ranges) (j k y s t : ℕ) (ss : List ℕ) : Type 0 where
+  pub groups_grow : groups R j y (ss ++ s ∷ t ∷ []) ≡ groups R j y ss ++ group R k (first_pass R k s t).0 (last_spill R j y ss)
+  pub new_spill : last_spill R j y (ss ++ s ∷ t ∷ []) ≡ (first_pass R k s t).1
+
+pub pair_joins : (R : Ranges) (j k y s t : ℕ) (ss : List ℕ) → length ss ≡ 2 * (k - j) → j ≤ k → PairJoins R j k y s t ss
+pair_joins R j k y s t ss e h =
+    let one = waits R j y ss s (omega arith) in
+    let long = length-append ss (s ∷ []) in
+    let two = joins R j k y (ss ++ s ∷ []) t (omega arith) (omega arith) in
+    let both : (ss ++ s ∷ []) ++ t ∷ [] ≡ ss ++ s ∷ t ∷ [] = append_assoc ss (s ∷ []) (t ∷ []) in
+    record {
+      groups_grow = rw (both, one.groups_stay, one.spill_stays, one.waits) at two.groups_grow;
+      new_spill = rw (both, one.waits) at two.new_spill;
+    }
+
+pub same_first : (l : ℕ) (ss new : List ℕ) → l ≤ length ss → first_spill l (ss ++ new) ≡ first_spill l ss
 same_first zero ss new h = refl
 same_first (suc l) [] new h = absurd (omega arith)
 same_first (suc l) (s ∷ ss) new h = refl

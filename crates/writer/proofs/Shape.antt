@@ -101,7 +101,7 @@ module _ (R : Ranges) (law : Lawful R) where
       (spill_below R law j s t (omega arith) v.0 v.1.0))
 
   -- The symbols of a valid recording.
-  symbols_below : (blocks : List ℕ) → Valid R blocks → AllByRecursion (λ s. s < alphabet R) (symbols R blocks)
+  pub symbols_below : (blocks : List ℕ) → Valid R blocks → AllByRecursion (λ s. s < alphabet R) (symbols R blocks)
   symbols_below blocks v =
       let m = marked R law.lead_high (length blocks) in
       each_append (λ s. s < alphabet R) blocks (marks R (length blocks))

@@ -18,13 +18,13 @@ two_blocks_unique base w w' p q e =
     let high = head-eq_of_cons-eq f in
     (cc (div-add-mod' w base, div-add-mod' w' base), tail-eq_of_cons-eq f)
 
-in_blocks_unique : (lead base j w w' : ℕ) (p q : List ℕ) →
+pub in_blocks_unique : (lead base j w w' : ℕ) (p q : List ℕ) →
     in_blocks lead base j w ++ p ≡ in_blocks lead base j w' ++ q → (w ≡ w') × (p ≡ q)
 in_blocks_unique zero base zero w w' p q e = (head-eq_of_cons-eq e, tail-eq_of_cons-eq e)
 in_blocks_unique (suc l) base zero w w' p q e = two_blocks_unique base w w' p q e
 in_blocks_unique l base (suc j) w w' p q e = two_blocks_unique base w w' p q e
 
-group_unique : (R : Ranges) (j r r' y y' : ℕ) (p q : List ℕ) → y < R.spill j → y' < R.spill j →
+pub group_unique : (R : Ranges) (j r r' y y' : ℕ) (p q : List ℕ) → y < R.spill j → y' < R.spill j →
     group R j r y ++ p ≡ group R j r' y' ++ q → (r ≡ r') × (y ≡ y') × (p ≡ q)
 group_unique R j r r' y y' p q h h' e =
     let f = in_blocks_unique R.lead R.base j (r * R.spill j + y) (r' * R.spill j + y') p q e in
@@ -32,12 +32,12 @@ group_unique R j r r' y y' p q h h' e =
     (ap (λ (d : ℕ × ℕ). d.0) same, ap (λ (d : ℕ × ℕ). d.1) same, f.1)
 
 -- A list of groups begins with a group of its first spill.
-closed_head : (R : Ranges) (j y : ℕ) (ss : List ℕ) → (r : ℕ) × (rest : List ℕ) × (closed R j y ss ≡ group R j r y ++ rest)
+pub closed_head : (R : Ranges) (j y : ℕ) (ss : List ℕ) → (r : ℕ) × (rest : List ℕ) × (closed R j y ss ≡ group R j r y ++ rest)
 closed_head R j y [] = (0, [], sym (append-nil _))
 closed_head R j y (s ∷ []) = (0, [], sym (append-nil _))
 closed_head R j y (s ∷ t ∷ ss) = ((first_pass R j s t).0, closed R (suc j) (first_pass R j s t).1 ss, refl)
 
-head_unique : (R : Ranges) (j y y' : ℕ) (ss ss' a b : List ℕ) → y < R.spill j → y' < R.spill j →
+pub head_unique : (R : Ranges) (j y y' : ℕ) (ss ss' a b : List ℕ) → y < R.spill j → y' < R.spill j →
     closed R j y ss ++ a ≡ closed R j y' ss' ++ b → y ≡ y'
 head_unique R j y y' ss ss' a b h h' e =
     let c = closed_head R j y ss in
@@ -102,7 +102,7 @@ module _ (R : Ranges) (law : Lawful R) where
   ended_pair s t (x ∷ ss) h k e = (h, k, e)
 
   -- Blocks with their marks are ended.
-  ended : (xs : List ℕ) (n : ℕ) → Below xs → R.lead ≤ n → (n - R.lead + length xs) % 2 ≡ 0 → Ended R.base (xs ++ marks R n)
+  pub ended : (xs : List ℕ) (n : ℕ) → Below xs → R.lead ≤ n → (n - R.lead + length xs) % 2 ≡ 0 → Ended R.base (xs ++ marks R n)
   ended [] n v h e = subst (Ended R.base) (sym (marks_two R n (omega arith))) (omega arith, refl)
   ended (x ∷ []) n v h e = subst (λ (ms : List ℕ). Ended R.base (x ∷ ms)) (sym (marks_one R n (omega arith))) (omega arith, refl)
   ended (x ∷ x' ∷ xs) n v h e = ended_pair x x' (xs ++ marks R n) v.0 v.1.0 (ended xs n v.1.1 h (omega arith))
